@@ -1,0 +1,12 @@
+pub mod Scans
+pub mod Listed
+pub mod Classes
+pub mod Lexing
+pub mod Judging
+pub mod Firstness
+pub mod Pinned
+pub mod Growing
+pub mod Forming
+pub mod Truth
+pub mod Exact
+pub mod Examples

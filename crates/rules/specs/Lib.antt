@@ -1,0 +1,12 @@
+pub mod Refusals
+pub mod Letters
+pub mod Signals
+pub mod Formula
+pub mod Entries
+pub mod Runs
+pub mod Text
+pub mod Reading
+pub mod Owed
+pub mod First
+pub mod Words
+pub mod Rules
