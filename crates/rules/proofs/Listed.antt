@@ -8,10 +8,12 @@ use Rattle.std.specs.shelf.Lists.{leading}
 use Rattle.std.specs.shelf.Text.{sameBytes}
 use Rattle.std.specs.declared.option.Option.{Option}
 use Rattle.std.specs.declared.option.Option.the-variants.{Some, None}
-use Rattle.std.proofs.shelf.Tests.{cases-bool, cases-lt, cond-true, cond-false, true≢false}
+use lib.Dec.{eqb}
+use mathlib.Core.Bool.{false, not}
+use Rattle.std.proofs.shelf.Tests.{eqb-true, cases-bool, cases-lt, cond-true, cond-false, true≢false}
 use Rattle.std.proofs.shelf.Lists.{drop-drop}
 use Rattle.std.proofs.shelf.Equals.{sameBytes-decides}
-use Rattle.rules.specs.Signals.{inWord, wordEnd, longer, words, names, Few, Lawful, placeOf, numberOf, Looked, Fits, AllFit}
+use Rattle.rules.specs.Signals.{inWord, wordEnd, longer, words, names, spaced, joined, Few, Lawful, placeOf, numberOf, Looked, Fits, AllFit}
 
 -- the words after the first
 abbrev pub others : List ℕ → List (List ℕ)
@@ -62,6 +64,39 @@ pub names-words : (bytes : List ℕ) → 0 < length bytes → names bytes ≡ wo
 names-words [] h = absurd (omega arith)
 names-words (b ∷ bs) h = refl
 
+-- the words with one space between two are the bytes again
+joined-longer : (b : ℕ) (ws : List (List ℕ)) → joined (longer b ws) ≡ b ∷ joined ws
+joined-longer b [] = refl
+joined-longer b (w ∷ ws) = refl
+
+joined-more : (ws : List (List ℕ)) → 0 < length ws → spaced ws ≡ 32 ∷ joined ws
+joined-more [] h = absurd (omega arith)
+joined-more (w ∷ ws) h = refl
+
+some-words : (xs : List ℕ) → 0 < length (words xs)
+some-words xs = omega (arith, ap length (words-split xs))
+
+no-word : (b : ℕ) → inWord b ≡ false → 32 ≡ b
+no-word b y =
+    elim (cases-bool (eqb b 32)) [
+      | inl z ↦ sym (eqb-true b 32 z)
+      | inr z ↦ absurd (true≢false (sym (ap not z) ∙ y))
+    ]
+
+joined-words : (xs : List ℕ) → joined (words xs) ≡ xs
+joined-words [] = refl
+joined-words (b ∷ bs) =
+    elim (cases-bool (inWord b)) [
+      | inl y ↦ ap joined (cond-true (inWord b) (longer b (words bs)) ([] ∷ words bs) y) ∙ joined-longer b (words bs) ∙ ap (λ (ys : List ℕ). b ∷ ys) (joined-words bs)
+      | inr y ↦
+          ap joined (cond-false (inWord b) (longer b (words bs)) ([] ∷ words bs) y) ∙ joined-more (words bs) (some-words bs)
+          ∙ ap (λ (ys : List ℕ). 32 ∷ ys) (joined-words bs) ∙ ap (λ (c : ℕ). c ∷ bs) (no-word b y)
+    ]
+
+pub joined-names : (bytes : List ℕ) → joined (names bytes) ≡ bytes
+joined-names [] = refl
+joined-names (b ∷ bs) = joined-words (b ∷ bs)
+
 -- each word fits, and the list is lawful: the same
 fit-at : (ns : List ℕ) (ws : List (List ℕ)) (n : ℕ) → AllFit ns ws n → (k : ℕ) → k < length ws → Fits ns (getD ws k []) (n + k)
 fit-at ns [] n f k h = absurd (omega arith)
@@ -109,9 +144,6 @@ fit-names ns s f = record {
       let d : 0 + i ≡ 0 + j = cc in
       omega arith;
 }
-
-some-words : (xs : List ℕ) → 0 < length (words xs)
-some-words xs = omega (arith, ap length (words-split xs))
 
 pub fit-lawful : (ns : List ℕ) → AllFit ns (words ns) 0 → Lawful ns
 fit-lawful [] (f, g) = absurd (true≢false (sym (f .1)))

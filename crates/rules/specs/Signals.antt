@@ -1,7 +1,7 @@
 -- Lists of signal names: which are lawful, and the number of a name.
 use mathlib.Core.Path.{_≡_}
 use mathlib.Core.Bool.{Bool, true, false, cond, not}
-use mathlib.Core.List.{List, [], _∷_}
+use mathlib.Core.List.{List, [], _∷_, _++_}
 use Prim.Native.Nat.{ℕ, _+_, _≤_, _<_}
 use lib.ListN.{length, getD, drop}
 use lib.Dec.{eqb}
@@ -37,6 +37,15 @@ words (b ∷ bs) = cond (inWord b) (longer b (words bs)) ([] ∷ words bs)
 abbrev pub names : List ℕ → List (List ℕ)
 names [] = []
 names (b ∷ bs) = words (b ∷ bs)
+
+-- names with one space between two
+abbrev pub spaced : List (List ℕ) → List ℕ
+spaced [] = []
+spaced (w ∷ ws) = 32 ∷ (w ++ spaced ws)
+
+abbrev pub joined : List (List ℕ) → List ℕ
+joined [] = []
+joined (w ∷ ws) = w ++ spaced ws
 
 -- at most 16 names
 abbrev pub Few : List (List ℕ) → Type 0

@@ -6,7 +6,7 @@ ghost use Rattle.rules.specs.Rules.{Parses, Whole, ReadAs, Alone, Divides, Sho
 ghost use Rattle.rules.specs.Formula.{size};
 ghost use Rattle.rules.specs.Rules.{formulaOf};
 use crate::arena::Arena;
-use crate::arena::Rule;
+pub use crate::arena::Rule;
 use crate::reader::Reader;
 use crate::refusal::Fault;
 use crate::refusal::FaultKind;
@@ -73,11 +73,13 @@ fn whole<'a>(list: SignalList<'a>, text: &'a [u8]) -> Result<Rule, Fault>
 }
 
 impl Rule {
-    // The formula that the text spells, or why it spells none.
+    // The formula that the text spells, or why it spells none. No other answer fits the text; every run keeps or breaks
+    // what was read; and what a text spells and where its first fault stands follow from what is owed after each word.
     pub fn read<'a>(list: SignalList<'a>, text: &'a [u8]) -> Result<Rule, Refusal>
         ensures answer { λ r. ⌜ ReadAs (now (list .entry .bytes)) (now (text .entry)) r ⌝ }
         ensures alone { λ r. ⌜ Alone (now (list .entry .bytes)) (now (text .entry)) r ⌝ }
         ensures divides { λ r. ⌜ Divides r ⌝ }
+        ensures grammar { λ _. ⌜ Grammar ⌝ }
     {
         if text.len() == 0 || text.len() > LONGEST {
             return Err(Refusal::Length);
@@ -98,12 +100,4 @@ impl Rule {
     {
         &self.arena.entries[0..self.arena.len]
     }
-}
-
-// The definitions of reading do what they say: what is owed is met exactly by the spelling of a formula, what is
-// refused has its first fault there, and no text has two.
-pub fn grammar_stands() -> bool
-    ensures { λ _. ⌜ Grammar ⌝ }
-{
-    true
 }

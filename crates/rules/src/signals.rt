@@ -6,7 +6,7 @@ ghost use lib.ListN.{length};
 ghost use Rattle.std.specs.Orderings.{Decides};
 ghost use Rattle.std.specs.declared.option.Option.the-variants.{Some};
 ghost use Rattle.rules.specs.Letters.{isName};
-ghost use Rattle.rules.specs.Signals.{names, numberOf, wordEnd, Fits, Lawful, Few, Proper, Distinct, Looked, Checked};
+ghost use Rattle.rules.specs.Signals.{names, numberOf, wordEnd, Fits, joined, Lawful, Few, Proper, Distinct, Looked, Checked};
 use crate::letters::name_end;
 use crate::refusal::Refusal;
 
@@ -103,7 +103,8 @@ fn is_lawful(bytes: &[u8]) -> bool
 impl<'a> SignalList<'a> {
     // The list check: are these bytes a lawful list?
     pub fn check(bytes: &[u8]) -> Result<(), Refusal>
-        ensures { λ r. ⌜ Checked (now (bytes .entry)) r ⌝ }
+        ensures answer { λ r. ⌜ Checked (now (bytes .entry)) r ⌝ }
+        ensures names { λ _. ⌜ joined (names (now (bytes .entry))) ≡ now (bytes .entry) ⌝ }
     {
         if is_lawful(bytes) {
             Ok(())
