@@ -7,8 +7,6 @@ use Rattle.std.proofs.shelf.Results.{err-from-errBy}
 use Rattle.rules.specs.declared.syntax.Binary.{Binary}
 use Rattle.rules.specs.declared.syntax.Word.the-variants.{Leaf, Prefix, Infix, Open, Close}
 use Rattle.rules.specs.declared.syntax.Entry.the-variants.{Leaf as Leaf′, One, Two}
-use Rattle.rules.specs.Formula.{atom, unary, binary}
-use Rattle.rules.specs.Text.{word}
 use Rattle.rules.specs.Owed.{formula, sign, bracket}
 use Rattle.rules.specs.Words.{Goes, Refuses}
 use Rattle.rules.specs.Rules.{Formed}

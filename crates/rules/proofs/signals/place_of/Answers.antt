@@ -7,7 +7,6 @@ use Rattle.std.proofs.shelf.Tests.{both-ways}
 use Rattle.std.proofs.shelf.Lists.{drop-all, drop-more}
 use Rattle.std.proofs.shelf.Equals.{matches-decides}
 use Rattle.rules.specs.Signals.{placeOf}
-use Rattle.rules.specs.Text.{name}
 use Rattle.rules.proofs.Listed.{others, place-split, found-here, not-here}
 use Rattle.rules.proofs.signals.place_of.Needs as need
 

@@ -2,7 +2,6 @@ use Prim.Native.Nat.{_-_, _≤_}
 use mathlib.Core.Path.{_≡_}
 use lib.ListN.{length, drop}
 use Rattle.rules.specs.Signals.{words, placeOf, numberOf}
-use Rattle.rules.specs.Text.{name}
 use Rattle.rules.proofs.signals.place_of.Given as given
 
 abbrev pub Inv-words : given.InvT-words

@@ -6,7 +6,6 @@ use Prim.Native.Nat.{ℕ, _<_, _+_}
 use lib.ListN.{getD, length, drop}
 use Rattle.std.specs.shelf.Lists.{leading}
 use Rattle.rules.specs.Letters.{small}
-use Rattle.rules.specs.Runs.{at}
 use Rattle.rules.specs.Text.{blank}
 use Rattle.rules.proofs.Classes.{stops-at, class-other, NoSign}
 use Rattle.rules.proofs.reader.Reader.next_token.Needs as need
