@@ -8,8 +8,8 @@ use lib.ListN.{length, getD, drop}
 use Rattle.std.specs.shelf.Lists.{leading}
 use Rattle.std.proofs.shelf.Tests.{cases-bool, cond-true, cond-false, ne-eqb}
 use Rattle.std.proofs.shelf.Lists.{getD-drop, length-drop}
-use Rattle.rules.specs.Letters.{small}
-use Rattle.rules.specs.Text.{blank, other, class, signs}
+use Rattle.rules.specs.Letters.{blank, small}
+use Rattle.rules.specs.Text.{other, class, signs}
 
 -- where a run stops, the test fails
 pub stops : (p : ℕ → Bool) (xs : List ℕ) → leading p xs < length xs → p (getD xs (leading p xs) 0) ≡ false

@@ -96,6 +96,7 @@ shows r xs e =
     let o : Ordered xs (length xs) = λ i l. ap (below i) (read i (omega arith)) ∙ r .arena .ordered i (omega arith) in
     record {
       some = omega (arith, r .rooted);
+      few = omega (arith, r .arena .fits);
       ordered = o;
       last = ap (λ (m : ℕ). meaning xs m (m - 1)) len ∙ ap (λ (zs : List Entry). getD (build [] zs) (n - 1) (atom True)) same;
       each = λ i l. stands-at xs (length xs) i (omega arith) l o;

@@ -24,9 +24,9 @@ use Rattle.rules.specs.declared.syntax.Binary.{Binary}
 use Rattle.rules.specs.declared.syntax.Binary.the-variants.{And, Or, Implies, Equivalent}
 use Rattle.rules.specs.declared.syntax.Word.{Word}
 use Rattle.rules.specs.declared.syntax.Word.the-variants.{Prefix, Infix}
-use Rattle.rules.specs.Letters.{small, inName, nameEnd}
+use Rattle.rules.specs.Letters.{blank, small, inName, nameEnd}
 use Rattle.rules.specs.Signals.{numberOf}
-use Rattle.rules.specs.Text.{sign, blank, Class, space, name, other, class, Lexed, done, stop, word, listed, pick, lexes, lexed}
+use Rattle.rules.specs.Text.{sign, Class, space, name, other, class, Lexed, done, stop, word, listed, pick, lexes, lexed}
 use Rattle.rules.specs.Reading.{begin, part, unarySign, binarySign, Stands, Faulty, Reads, wordOf, Says}
 
 skip : (ns xs : List ℕ) (o k : ℕ) → lexes ns xs o k ≡ lexes ns (drop k xs) (o + k) 0

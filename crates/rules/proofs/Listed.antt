@@ -13,7 +13,8 @@ use mathlib.Core.Bool.{false, not}
 use Rattle.std.proofs.shelf.Tests.{eqb-true, cases-bool, cases-lt, cond-true, cond-false, true≢false}
 use Rattle.std.proofs.shelf.Lists.{drop-drop}
 use Rattle.std.proofs.shelf.Equals.{sameBytes-decides}
-use Rattle.rules.specs.Signals.{inWord, wordEnd, longer, words, names, spaced, joined, Few, Lawful, placeOf, numberOf, Looked, Fits, AllFit}
+use Rattle.rules.specs.Letters.{inWord, runEnd}
+use Rattle.rules.specs.Signals.{longer, words, names, spaced, joined, Few, Lawful, placeOf, numberOf, Looked, Fits, AllFit}
 
 -- the words after the first
 abbrev pub others : List ℕ → List (List ℕ)
@@ -38,7 +39,7 @@ words-split (b ∷ bs) =
           subst P (sym n) (cond-false _ _ _ y)
     ]
 
-pub split-at : (bytes : List ℕ) (i j : ℕ) → j ≡ wordEnd bytes i → words (drop i bytes) ≡ take (j - i) (drop i bytes) ∷ others (drop j bytes)
+pub split-at : (bytes : List ℕ) (i j : ℕ) → j ≡ runEnd inWord bytes i → words (drop i bytes) ≡ take (j - i) (drop i bytes) ∷ others (drop j bytes)
 split-at bytes i j e =
     let k : ℕ = leading inWord (drop i bytes) in
     let a : j - i ≡ k = omega arith in
@@ -46,7 +47,7 @@ split-at bytes i j e =
     words-split (drop i bytes) ∙ ap (λ (m : ℕ). take m (drop i bytes) ∷ others (drop k (drop i bytes))) (sym a) ∙ ap (λ (ys : List ℕ). take (j - i) (drop i bytes) ∷ others ys) b
 
 -- the first word of what is left, and the others
-pub place-split : (x bytes : List ℕ) (i j n : ℕ) → j ≡ wordEnd bytes i → placeOf x (words (drop i bytes)) n ≡ placeOf x (take (j - i) (drop i bytes) ∷ others (drop j bytes)) n
+pub place-split : (x bytes : List ℕ) (i j n : ℕ) → j ≡ runEnd inWord bytes i → placeOf x (words (drop i bytes)) n ≡ placeOf x (take (j - i) (drop i bytes) ∷ others (drop j bytes)) n
 place-split x bytes i j n e = ap (λ ws. placeOf x ws n) (split-at bytes i j e)
 
 pub found-here : (x w : List ℕ) (ws : List (List ℕ)) (n : ℕ) → w ≡ x → placeOf x (w ∷ ws) n ≡ Some n

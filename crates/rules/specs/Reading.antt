@@ -4,7 +4,6 @@ use mathlib.Core.Bool.{true}
 use mathlib.Core.List.{List}
 use Prim.Native.Nat.{ℕ, _+_, _-_, _<_}
 use lib.ListN.{length, getD, take, drop}
-use Rattle.std.specs.shelf.Lists.{leading}
 use Rattle.std.specs.declared.option.Option.{Option}
 use Rattle.std.specs.declared.option.Option.the-variants.{Some, None}
 use Rattle.std.specs.declared.result.Result.{Result}
@@ -22,12 +21,12 @@ use Rattle.rules.specs.declared.syntax.Binary.the-variants.{And, Or, Implies, 
 use Rattle.rules.specs.declared.syntax.Word.{Word}
 use Rattle.rules.specs.declared.syntax.Word.the-variants.{Leaf, Prefix, Infix, Open, Close}
 use Rattle.rules.specs.Signals.{numberOf}
-use Rattle.rules.specs.Letters.{small, nameEnd}
-use Rattle.rules.specs.Text.{blank, class, other, lexed, done, stop, word}
+use Rattle.rules.specs.Letters.{small, blank, runEnd, nameEnd}
+use Rattle.rules.specs.Text.{class, other, lexed, done, stop, word}
 
 -- the first byte at i or later that is no blank
 abbrev pub begin : List ℕ → ℕ → ℕ
-begin text i = i + leading blank (drop i text)
+begin = runEnd blank
 
 -- the bytes from i to j
 abbrev pub part : List ℕ → ℕ → ℕ → List ℕ

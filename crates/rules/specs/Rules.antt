@@ -86,6 +86,7 @@ Divides (Err e) = Unit {0}
 -- the entries of a rule, one by one
 pub record Shows (r : Rule) (xs : List Entry) : Type 0 where
   pub some : 0 < length xs
+  pub few : length xs ≤ 512
   pub ordered : Ordered xs (length xs)
   pub last : meaning xs (length xs) (length xs - 1) ≡ formulaOf r
   pub each : (i : ℕ) → i < length xs → Stands (meaning xs (length xs)) (getD xs i nothing) (meaning xs (length xs) i)

@@ -1,11 +1,9 @@
 -- Lists of signal names: which are lawful, and the number of a name.
 use mathlib.Core.Path.{_≡_}
-use mathlib.Core.Bool.{Bool, true, false, cond, not}
+use mathlib.Core.Bool.{Bool, true, false, cond}
 use mathlib.Core.List.{List, [], _∷_, _++_}
 use Prim.Native.Nat.{ℕ, _+_, _≤_, _<_}
-use lib.ListN.{length, getD, drop}
-use lib.Dec.{eqb}
-use Rattle.std.specs.shelf.Lists.{leading}
+use lib.ListN.{length, getD}
 use Rattle.std.specs.shelf.Text.{sameBytes}
 use Rattle.std.specs.declared.option.Option.{Option}
 use Rattle.std.specs.declared.option.Option.the-variants.{Some, None}
@@ -13,15 +11,7 @@ use Rattle.std.specs.declared.result.Result.{Result}
 use Rattle.std.specs.declared.result.Result.the-variants.{Ok, Err}
 use Rattle.rules.specs.declared.refusal.Refusal.{Refusal}
 use Rattle.rules.specs.declared.refusal.Refusal.the-variants.{List as BadList}
-use Rattle.rules.specs.Letters.{isName}
-
--- a byte that is not the space between two names
-abbrev pub inWord : ℕ → Bool
-inWord b = not (eqb b 32)
-
--- where the word ends that begins at i
-abbrev pub wordEnd : List ℕ → ℕ → ℕ
-wordEnd bytes i = i + leading inWord (drop i bytes)
+use Rattle.rules.specs.Letters.{inWord, isName}
 
 -- one more byte before the first word
 abbrev pub longer : ℕ → List (List ℕ) → List (List ℕ)

@@ -1,5 +1,5 @@
 -- What a text says: its words with their offsets, up to its end or to a fault.
-use mathlib.Core.Bool.{Bool, cond, _||_}
+use mathlib.Core.Bool.{cond}
 use mathlib.Core.List.{List, [], _∷_}
 use Prim.Native.Nat.{ℕ, zero, suc, _+_}
 use lib.ListN.{take, drop}
@@ -14,12 +14,8 @@ use Rattle.rules.specs.declared.syntax.Unary.the-variants.{Not, Always, Eventu
 use Rattle.rules.specs.declared.syntax.Binary.the-variants.{And, Or, Implies, Equivalent}
 use Rattle.rules.specs.declared.syntax.Word.{Word}
 use Rattle.rules.specs.declared.syntax.Word.the-variants.{Leaf, Prefix, Infix, Open, Close}
-use Rattle.rules.specs.Letters.{small, inName}
+use Rattle.rules.specs.Letters.{small, inName, blank}
 use Rattle.rules.specs.Signals.{numberOf}
-
--- a space or a line feed: these may stand around tokens
-abbrev pub blank : ℕ → Bool
-blank b = eqb b 32 || eqb b 10
 
 -- what a byte begins
 pub data Class : Type 0 where

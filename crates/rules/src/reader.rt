@@ -2,9 +2,9 @@
 ghost use mathlib.Core.Path.{_≡_};
 ghost use Prim.Native.Nat.{ℕ, _+_, _<_, _≤_};
 ghost use lib.ListN.{length, getD, drop};
-ghost use Rattle.rules.specs.Text.{blank};
-ghost use Rattle.rules.specs.Reading.{begin, Reads};
-use crate::letters::name_end;
+ghost use Rattle.rules.specs.Reading.{Reads};
+use crate::letters::Kind;
+use crate::letters::run_end;
 use crate::refusal::Fault;
 use crate::refusal::FaultKind;
 use crate::signals::SignalList;
@@ -32,25 +32,6 @@ pub struct Reader<'a> {
     ghost within: { at ≤ length (text .now) },
 }
 
-// Is it a byte that may stand around tokens?
-fn is_blank(b: u8) -> bool
-    ensures { λ r. ⌜ r ≡ blank b ⌝ }
-{
-    b == b' ' || b == b'\n'
-}
-
-// The first byte from `from` on that is no blank.
-fn skip_blanks(text: &[u8], from: usize) -> usize
-    requires { ⌜ from ≤ length (now text) ⌝ }
-    ensures { λ r. ⌜ (r ≡ begin (now (text .entry)) from) × (r ≤ length (now (text .entry))) ⌝ }
-{
-    let mut at = from;
-    while at < text.len() && is_blank(text[at]) {
-        at += 1;
-    }
-    at
-}
-
 impl<'a> Reader<'a> {
     // A reader at the text's beginning.
     pub fn new(list: SignalList<'a>, text: &'a [u8]) -> Reader<'a>
@@ -66,14 +47,14 @@ impl<'a> Reader<'a> {
         ensures reads { λ r. ⌜ Reads (now (now (self .entry) .list .bytes)) (now (now (self .entry) .text)) (now (self .entry) .at) r (now (self .exit) .at) ⌝ }
     {
         let text = self.text;
-        let at = skip_blanks(text, self.at);
+        let at = run_end(Kind::Blank, text, self.at);
         self.at = at;
         if at >= text.len() {
             return Ok(None);
         }
         let first = text[at];
         if first >= b'a' && first <= b'z' {
-            let end = name_end(text, at);
+            let end = run_end(Kind::Name, text, at);
             let name = &text[at..end];
             return match self.list.number_of(name) {
                 Some(signal) => {

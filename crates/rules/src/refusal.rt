@@ -4,7 +4,7 @@ ghost use mathlib.Core.Path.{_≡_};
 ghost use Rattle.rules.specs.Refusals.{refusalOf, told, word, offsetOf};
 
 // What can be wrong with a rule text of a lawful length.
-#[derive(Clone, Copy, PartialEq)]
+#[derive(Clone, Copy)]
 pub enum FaultKind {
     // a byte that starts no token
     Letter,
@@ -15,7 +15,7 @@ pub enum FaultKind {
 }
 
 // The first fault of a rule text, and where it stands.
-#[derive(Clone, Copy, PartialEq)]
+#[derive(Clone, Copy)]
 pub struct Fault {
     pub kind: FaultKind,
     pub offset: usize,

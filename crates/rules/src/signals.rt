@@ -6,8 +6,9 @@ ghost use lib.ListN.{length};
 ghost use Rattle.std.specs.Orderings.{Decides};
 ghost use Rattle.std.specs.declared.option.Option.the-variants.{Some};
 ghost use Rattle.rules.specs.Letters.{isName};
-ghost use Rattle.rules.specs.Signals.{names, numberOf, wordEnd, Fits, joined, Lawful, Few, Proper, Distinct, Looked, Checked};
-use crate::letters::name_end;
+ghost use Rattle.rules.specs.Signals.{names, numberOf, Fits, joined, Lawful, Few, Proper, Distinct, Looked, Checked};
+use crate::letters::Kind;
+use crate::letters::run_end;
 use crate::refusal::Refusal;
 
 // The names of a lawful list, or no names at all.
@@ -19,18 +20,6 @@ pub struct SignalList<'a> {
     ghost distinct: { Distinct (names (bytes .now)) },
 }
 
-// Where the word ends that begins at `from`.
-fn word_end(bytes: &[u8], from: usize) -> usize
-    requires { ⌜ from ≤ length (now bytes) ⌝ }
-    ensures { λ r. ⌜ (r ≡ wordEnd (now (bytes .entry)) from) × (from ≤ r) × (r ≤ length (now (bytes .entry))) ⌝ }
-{
-    let mut at = from;
-    while at < bytes.len() && bytes[at] != b' ' {
-        at += 1;
-    }
-    at
-}
-
 // May a signal be called so?
 fn is_name(word: &[u8]) -> bool
     ensures { λ r. ⌜ r ≡ isName (now (word .entry)) ⌝ }
@@ -39,7 +28,7 @@ fn is_name(word: &[u8]) -> bool
         && word.len() <= 8
         && word[0] >= b'a'
         && word[0] <= b'z'
-        && name_end(word, 0) == word.len()
+        && run_end(Kind::Name, word, 0) == word.len()
 }
 
 // The place of the first of the list's words that is `name`.
@@ -52,7 +41,7 @@ fn place_of(bytes: &[u8], name: &[u8]) -> Option<usize>
     let mut from = 0;
     let mut number = 0;
     'words: loop {
-        let end = word_end(bytes, from);
+        let end = run_end(Kind::Word, bytes, from);
         if &bytes[from..end] == name {
             return Some(number);
         }
@@ -88,7 +77,7 @@ fn is_lawful(bytes: &[u8]) -> bool
     let mut from = 0;
     let mut number = 0;
     'words: loop {
-        let end = word_end(bytes, from);
+        let end = run_end(Kind::Word, bytes, from);
         if !fits(bytes, &bytes[from..end], number) {
             return false;
         }

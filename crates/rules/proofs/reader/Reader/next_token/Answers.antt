@@ -5,16 +5,15 @@ use mathlib.Core.Bool.{false}
 use Prim.Native.Nat.{ℕ, _<_, _+_}
 use lib.ListN.{getD, length, drop}
 use Rattle.std.specs.shelf.Lists.{leading}
-use Rattle.rules.specs.Letters.{small}
-use Rattle.rules.specs.Text.{blank}
+use Rattle.rules.specs.Letters.{blank, small}
 use Rattle.rules.proofs.Classes.{stops-at, class-other, NoSign}
 use Rattle.rules.proofs.reader.Reader.next_token.Needs as need
 
 pub returns-in-rest : need.returns-in-rest
 returns-in-rest c =
     let xs = c .args .self .now .text .now in
-    let i : ℕ = c .skip-blanks-at .result in
-    let e : i ≡ c .args .self .now .at + leading blank (drop (c .args .self .now .at) xs) = c .skip-blanks-at .ensures .0 in
+    let i : ℕ = c .run-end-at .result in
+    let e : i ≡ c .args .self .now .at + leading blank (drop (c .args .self .now .at) xs) = c .run-end-at .ensures .0 in
     let l : i < length xs = c .if-at-text .left in
     let P : ℕ → Type 0 = λ k. k < length xs in
     let Q : ℕ → Type 0 = λ k. blank (getD xs k 0) ≡ false in
