@@ -1,0 +1,11 @@
+-- The needs are named by the first byte of a name: 114 is r, 115 is s.
+use borrow.Author.Needs.{needs}
+use lib.Chars.{codes}
+use Rattle.std.proofs.shelf.Equals.{text-from-reads}
+use Rattle.routing.proofs.command.Verb.named.Needs as need
+
+pub returns-in-114 : need.returns-in-114
+returns-in-114 c = text-from-reads (c .args .word .now) (codes "rule") (search needs) (search needs)
+
+pub returns-in-115 : need.returns-in-115
+returns-in-115 c = text-from-reads (c .args .word .now) (codes "signals") (search needs) (search needs)

@@ -1,0 +1,167 @@
+// Counts the cases in which the library agrees, by kind, and tells of each other one.
+use crate::answer::Answer;
+use crate::answer::AnswerDisplay;
+use crate::check::agrees;
+use crate::check::judge;
+use crate::fault::Fault;
+use crate::row::ListCase;
+use crate::row::Row;
+use crate::row::RuleCase;
+use rules::refusal::Refusal;
+use rules::signals::SignalList;
+use std::alloc::AllocError;
+use std::fmt;
+use std::io;
+
+// The counts so far.
+#[derive(Drop)]
+pub struct Tally {
+    // the row at hand, by its line's number
+    row: u64,
+    accepted: u64,
+    length: u64,
+    letter: u64,
+    signal: u64,
+    form: u64,
+    lines: u64,
+    choices: u64,
+    list: u64,
+    lawful: u64,
+    unlawful: u64,
+    disagreements: u64,
+}
+
+// What the library found.
+#[derive(Clone, Copy)]
+struct Found(Result<(), Refusal>);
+
+impl fmt::Display for Found as FoundDisplay {
+    fn fmt<W: fmt::Write>(&self, f: &mut fmt::Formatter<W>) -> fmt::Result {
+        match self.0 {
+            Ok(()) => f.write_str("0"),
+            Err(refusal) => {
+                let number = refusal.number();
+                match refusal.offset() {
+                    Some(offset) => write!(f, "{number} at {offset}"),
+                    None => write!(f, "{number}"),
+                }
+            }
+        }
+    }
+}
+
+// One more.
+fn up(count: &mut u64) {
+    *count = count.saturating_add(1);
+}
+
+impl Tally {
+    // Nothing is counted yet.
+    pub fn new() -> Tally {
+        Tally {
+            row: 0,
+            accepted: 0,
+            length: 0,
+            letter: 0,
+            signal: 0,
+            form: 0,
+            lines: 0,
+            choices: 0,
+            list: 0,
+            lawful: 0,
+            unlawful: 0,
+            disagreements: 0,
+        }
+    }
+
+    // Takes the next line; one that is no row counts as a disagreement.
+    pub fn take(&mut self, rt: &LibcRuntime, line: &[u8]) -> io::Result<()> {
+        up(&mut self.row);
+        match Row::read(rt.alloc(), line) {
+            Ok(Row::Comment) => Ok(()),
+            Ok(Row::Rule(case)) => self.rule(rt, &case),
+            Ok(Row::List(case)) => self.list(rt, &case),
+            Err(Fault::Malformed) => {
+                up(&mut self.disagreements);
+                let row = self.row;
+                println!(rt, "row {row}: malformed")
+            }
+            Err(Fault::Memory) => Err(AllocError.into()),
+        }
+    }
+
+    // Counts a rule, or tells where the library differs.
+    fn rule(&mut self, rt: &LibcRuntime, case: &RuleCase) -> io::Result<()> {
+        let answer = case.answer;
+        let found = judge(case.list.as_slice(), case.text.as_slice());
+        if agrees(&answer, &found) {
+            up(self.of(&answer));
+            return Ok(());
+        }
+        up(&mut self.disagreements);
+        let row = self.row;
+        let found = Found(found);
+        println!(rt, "row {row}: expected {answer}, found {found}")
+    }
+
+    // The count of a kind of answer.
+    fn of(&mut self, answer: &Answer) -> &mut u64 {
+        match answer {
+            Answer::Accepted(_) => &mut self.accepted,
+            Answer::Length => &mut self.length,
+            Answer::Letter(_) => &mut self.letter,
+            Answer::Signal(_) => &mut self.signal,
+            Answer::Form(_) => &mut self.form,
+            Answer::Lines => &mut self.lines,
+            Answer::Choices => &mut self.choices,
+            Answer::List => &mut self.list,
+        }
+    }
+
+    // Counts a list, or tells where the library differs.
+    fn list(&mut self, rt: &LibcRuntime, case: &ListCase) -> io::Result<()> {
+        let lawful = SignalList::check(case.list.as_slice()).is_ok();
+        if lawful != case.lawful {
+            up(&mut self.disagreements);
+            let row = self.row;
+            println!(rt, "row {row}: the list is lawful: {lawful}")?;
+        } else if lawful {
+            up(&mut self.lawful);
+        } else {
+            up(&mut self.unlawful);
+        }
+        Ok(())
+    }
+
+    // Tells the counts, at the end of the input.
+    pub fn close(&self, rt: &LibcRuntime) -> io::Result<()> {
+        rt.println(self)
+    }
+}
+
+impl fmt::Display for Tally as TallyDisplay {
+    fn fmt<W: fmt::Write>(&self, f: &mut fmt::Formatter<W>) -> fmt::Result {
+        let accepted = self.accepted;
+        writeln!(f, "accepted: {accepted}")?;
+        let length = self.length;
+        writeln!(f, "length: {length}")?;
+        let letter = self.letter;
+        writeln!(f, "letter: {letter}")?;
+        let signal = self.signal;
+        writeln!(f, "signal: {signal}")?;
+        let form = self.form;
+        writeln!(f, "form: {form}")?;
+        let lines = self.lines;
+        writeln!(f, "lines: {lines}")?;
+        let choices = self.choices;
+        writeln!(f, "choices: {choices}")?;
+        let list = self.list;
+        writeln!(f, "list: {list}")?;
+        let lawful = self.lawful;
+        writeln!(f, "lists lawful: {lawful}")?;
+        let unlawful = self.unlawful;
+        writeln!(f, "lists unlawful: {unlawful}")?;
+        let disagreements = self.disagreements;
+        write!(f, "disagreements: {disagreements}")
+    }
+}
