@@ -141,26 +141,21 @@ impl Tally {
 
 impl fmt::Display for Tally as TallyDisplay {
     fn fmt<W: fmt::Write>(&self, f: &mut fmt::Formatter<W>) -> fmt::Result {
-        let accepted = self.accepted;
-        writeln!(f, "accepted: {accepted}")?;
-        let length = self.length;
-        writeln!(f, "length: {length}")?;
-        let letter = self.letter;
-        writeln!(f, "letter: {letter}")?;
-        let signal = self.signal;
-        writeln!(f, "signal: {signal}")?;
-        let form = self.form;
-        writeln!(f, "form: {form}")?;
-        let lines = self.lines;
-        writeln!(f, "lines: {lines}")?;
-        let choices = self.choices;
-        writeln!(f, "choices: {choices}")?;
-        let list = self.list;
-        writeln!(f, "list: {list}")?;
-        let lawful = self.lawful;
-        writeln!(f, "lists lawful: {lawful}")?;
-        let unlawful = self.unlawful;
-        writeln!(f, "lists unlawful: {unlawful}")?;
+        let counts = [
+            ("accepted", self.accepted),
+            ("length", self.length),
+            ("letter", self.letter),
+            ("signal", self.signal),
+            ("form", self.form),
+            ("lines", self.lines),
+            ("choices", self.choices),
+            ("list", self.list),
+            ("lists lawful", self.lawful),
+            ("lists unlawful", self.unlawful),
+        ];
+        for (kind, count) in counts {
+            writeln!(f, "{kind}: {count}")?;
+        }
         let disagreements = self.disagreements;
         write!(f, "disagreements: {disagreements}")
     }
