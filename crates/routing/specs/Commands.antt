@@ -9,9 +9,9 @@ use lib.ListN.{length, getD}
 use Rattle.std.specs.declared.option.Option.{Option}
 use Rattle.std.specs.declared.option.Option.the-variants.{Some, None}
 use Rattle.routing.specs.declared.command.Verb.{Verb}
-use Rattle.routing.specs.declared.command.Verb.the-variants.{Signals, Rule}
+use Rattle.routing.specs.declared.command.Verb.the-variants.{Signals, Rule, Table, Question}
 use Rattle.routing.specs.declared.command.Command.{Command}
-use Rattle.routing.specs.declared.command.Command.the-variants.{Signals as Take, Rule as Read}
+use Rattle.routing.specs.declared.command.Command.the-variants.{Signals as Take, Rule as Read, Table as Tabulate, Question as Ask}
 use Rattle.routing.specs.declared.command.Line.{Line}
 use Rattle.routing.specs.declared.command.Line.the-variants.{Blank, Order, Short, Unknown}
 use Rattle.routing.specs.Lines.{Cuts}
@@ -20,6 +20,8 @@ use Rattle.routing.specs.Lines.{Cuts}
 abbrev pub name : Verb → List ℕ
 name Signals = codes "signals"
 name Rule = codes "rule"
+name Table = codes "table"
+name Question = codes "question"
 
 -- the command of a name, or that there is none
 abbrev pub Named : List ℕ → Option Verb → Type 0
@@ -30,10 +32,14 @@ Named w (Some v) = w ≡ name v
 abbrev pub verb : Command → Verb
 verb (Take t) = Signals
 verb (Read t) = Rule
+verb (Tabulate t) = Table
+verb (Ask t) = Question
 
 abbrev pub subject : Command → List ℕ
 subject (Take t) = t .now
 subject (Read t) = t .now
+subject (Tabulate t) = t .now
+subject (Ask t) = t .now
 
 abbrev pub About : Verb → List ℕ → Command → Type 0
 About v rest k = (verb k ≡ v) × (subject k ≡ rest)

@@ -7,6 +7,8 @@ use crate::words::cut;
 pub enum Verb {
     Signals,
     Rule,
+    Table,
+    Question,
 }
 
 // What the clerk asks for.
@@ -16,6 +18,10 @@ pub enum Command<'a> {
     Signals(&'a [u8]),
     // read a rule, by its text
     Rule(&'a [u8]),
+    // make the normal table of keeping a rule, by its text
+    Table(&'a [u8]),
+    // make the normal table of keeping one rule and breaking another, by both texts with a slash between
+    Question(&'a [u8]),
 }
 
 // A line, by what is to be done about it.
@@ -38,6 +44,8 @@ impl Verb {
         match word {
             b"signals" => Some(Verb::Signals),
             b"rule" => Some(Verb::Rule),
+            b"table" => Some(Verb::Table),
+            b"question" => Some(Verb::Question),
             _ => None,
         }
     }
@@ -49,6 +57,8 @@ impl Verb {
         match self {
             Verb::Signals => Command::Signals(rest),
             Verb::Rule => Command::Rule(rest),
+            Verb::Table => Command::Table(rest),
+            Verb::Question => Command::Question(rest),
         }
     }
 }

@@ -10,11 +10,16 @@ use crate::refused::Pointed;
 use crate::refused::PointedDisplay;
 use crate::refused::Told;
 use crate::refused::ToldDisplay;
+use crate::table::Lines;
+use crate::table::LinesDisplay;
+use crate::table::parted;
 use crate::words::Numbered;
 use crate::words::NumberedDisplay;
 use rules::arena::Rule;
 use rules::signals::SignalList;
 use std::io;
+use tables::limits::NormalRule;
+use tables::question::Question;
 
 // A formula of more symbols is told by its size alone.
 const SHOWN: usize = 200;
@@ -83,7 +88,9 @@ impl Desk {
     fn carry_out(&mut self, rt: &LibcRuntime, command: Command) -> io::Result<()> {
         match command {
             Command::Signals(list) => self.signals(rt, list),
-            Command::Rule(text) => self.rule(rt, text),
+            Command::Rule(text) => read_rule(rt, self.names(rt)?, text),
+            Command::Table(text) => tell_table(rt, self.names(rt)?, text, &[]),
+            Command::Question(texts) => self.question(rt, texts),
         }
     }
 
@@ -102,14 +109,25 @@ impl Desk {
         }
     }
 
-    // Reads a rule over the list.
-    fn rule(&self, rt: &LibcRuntime, text: &[u8]) -> io::Result<()> {
+    // The list at hand; says so where none was given yet.
+    fn names(&self, rt: &LibcRuntime) -> io::Result<&[u8]> {
         match &self.list {
-            Some(list) => read_rule(rt, list.as_slice(), text),
+            Some(list) => Ok(list.as_slice()),
             None => {
                 println!(rt, "No signals were given yet, so there are no names.")?;
-                read_rule(rt, &[], text)
+                Ok(&[])
             }
+        }
+    }
+
+    // Takes a question by its two texts.
+    fn question(&self, rt: &LibcRuntime, texts: &[u8]) -> io::Result<()> {
+        match parted(texts) {
+            Some((x, y)) => tell_table(rt, self.names(rt)?, x, y),
+            None => println!(
+                rt,
+                "A question has a slash between what is kept and what is broken."
+            ),
         }
     }
 }
@@ -119,6 +137,9 @@ fn wanted(verb: Verb) -> &'static str {
     match verb {
         Verb::Signals => "after 'signals' write a blank and the names.",
         Verb::Rule => "after 'rule' write a blank and the rule's text.",
+        Verb::Table => "after 'table' write a blank and the rule's text.",
+        Verb::Question =>
+            "after 'question' write a blank, the text to keep, a slash, and the text to break.",
     }
 }
 
@@ -145,4 +166,28 @@ fn tell_rule(rt: &LibcRuntime, rule: &Rule, list: &[u8]) -> io::Result<()> {
     }
     let formula = Formula { rule, list };
     println!(rt, "The rule reads: {formula}. Its size is {size}.")
+}
+
+// Shows the normal table of keeping x and breaking y, each where it is given, or says why there is none.
+fn tell_table(rt: &LibcRuntime, list: &[u8], x: &[u8], y: &[u8]) -> io::Result<()> {
+    match Question::read(SignalList::lenient(list), x, y) {
+        Ok(question) => {
+            let table = &question.table;
+            let lines = table.lines().len();
+            let choices = table.choices();
+            let shown = Lines { table, list };
+            println!(rt, "Lines: {lines}. Choice lines: {choices}.{shown}")
+        }
+        Err(refusal) => {
+            let text = if is_refused(list, x) { x } else { y };
+            let told = Told(refusal);
+            let pointed = Pointed { refusal, text };
+            println!(rt, "The question is refused: {told}.{pointed}")
+        }
+    }
+}
+
+// Is a text that is given refused as a rule?
+fn is_refused(list: &[u8], text: &[u8]) -> bool {
+    text.len() > 0 && NormalRule::read(SignalList::lenient(list), text).is_err()
 }

@@ -7,6 +7,7 @@ mod command;
 mod desk;
 mod formula;
 mod refused;
+mod table;
 mod words;
 
 use desk::Desk;

@@ -1,9 +1,9 @@
 -- When what the library says of a rule fits a row.
 use mathlib.Core.Path.{_≡_}
-use mathlib.Core.Bool.{Bool, true, false}
 use mathlib.Core.List.{List}
 use mathlib.Core.Logic.{_⊎_}
 use Prim.Native.Nat.{ℕ}
+use lib.ListN.{length}
 use Rattle.std.specs.declared.option.Option.{Option}
 use Rattle.std.specs.declared.option.Option.the-variants.{Some, None}
 use Rattle.std.specs.declared.result.Result.{Result}
@@ -13,7 +13,11 @@ use Rattle.rules.specs.declared.refusal.Refusal.the-variants.{List as BadList}
 use Rattle.rules.specs.Refusals.{told, offsetOf}
 use Rattle.rules.specs.Formula.{Formula}
 use Rattle.rules.specs.Signals.{Lawful}
-use Rattle.rules.specs.Rules.{Lengthy, Spells, Refused}
+use Rattle.tables.specs.Lines.{choices}
+use Rattle.tables.specs.Limits.{kept, broken}
+use Rattle.tables.specs.Questions.{Says, Fails}
+use Rattle.vectors.specs.declared.answer.Measures.{Measures}
+use Rattle.vectors.specs.declared.check.Counts.{Counts}
 use Rattle.vectors.specs.declared.answer.Answer.{Answer}
 use Rattle.vectors.specs.declared.answer.Answer.the-variants.{Accepted, Length, Letter, Signal, Form, Lines, Choices, List as Unlawful}
 
@@ -39,23 +43,30 @@ offset Lines = None
 offset Choices = None
 offset Unlawful = None
 
--- the text itself reads well
-abbrev pub reads : Answer → Bool
-reads (Accepted m) = true
-reads Length = false
-reads (Letter at) = false
-reads (Signal at) = false
-reads (Form at) = false
-reads Lines = true
-reads Choices = true
-reads Unlawful = false
+-- the same lines and choice lines, in both forms
+abbrev pub Equal : Measures → Counts → Type 0
+Equal m c = (m .lines ≡ c .lines) × (m .choices ≡ c .choices) × (m .«negation_lines» ≡ c .«negation_lines») × (m .«negation_choices» ≡ c .«negation_choices»)
 
--- what was found fits: the rule was read, or refused with the same number at the same offset
-abbrev pub Fits : Answer → Result (Unit {0}) Refusal → Type 0
-Fits a (Ok u) = reads a ≡ true
+-- what was found fits: the rule was accepted with the same counts, or refused with the same number at the same offset
+abbrev pub Fits : Answer → Result Counts Refusal → Type 0
+Fits (Accepted m) (Ok c) = Equal m c
+Fits Length (Ok c) = ⊥
+Fits (Letter at) (Ok c) = ⊥
+Fits (Signal at) (Ok c) = ⊥
+Fits (Form at) (Ok c) = ⊥
+Fits Lines (Ok c) = ⊥
+Fits Choices (Ok c) = ⊥
+Fits Unlawful (Ok c) = ⊥
 Fits a (Err e) = (told e .0 ≡ number a) × (offsetOf e ≡ offset a)
 
--- what the library says of a text over a list: the text spells a formula; or the list is unlawful, else the text's own refusal
-abbrev pub Judged : List ℕ → List ℕ → Result (Unit {0}) Refusal → Type 0
-Judged list text (Ok u) = Lawful list × Lengthy text × ((f : Formula) × Spells list text f)
-Judged list text (Err e) = ((Lawful list → ⊥) × (e ≡ BadList)) ⊎ (Lawful list × Refused list text e)
+-- what the library counts in a formula
+abbrev pub Counted : Formula → Counts → Type 0
+Counted f c =
+    (c .lines ≡ length (kept f)) × (c .choices ≡ choices (kept f))
+    × (c .«negation_lines» ≡ length (broken f)) × (c .«negation_choices» ≡ choices (broken f))
+
+-- what the library says of a text over a list: the text is a rule within the limits, with its counts; or the list is
+-- unlawful, else the text's own refusal
+abbrev pub Judged : List ℕ → List ℕ → Result Counts Refusal → Type 0
+Judged list text (Ok c) = Lawful list × ((f : Formula) × Says list text f × Counted f c)
+Judged list text (Err e) = ((Lawful list → ⊥) × (e ≡ BadList)) ⊎ (Lawful list × Fails list text e)

@@ -2,29 +2,50 @@
 ghost use Rattle.std.specs.Orderings.{Decides};
 ghost use Rattle.vectors.specs.Answers.{Judged, Fits};
 use crate::answer::Answer;
-use rules::arena::Rule;
 use rules::refusal::Refusal;
 use rules::signals::SignalList;
+use tables::limits::NormalRule;
+use tables::question::Question;
 
-// What the library says of a rule over a list: nothing, where both are good.
-pub fn judge(list: &[u8], text: &[u8]) -> Result<(), Refusal>
+// The lines and choice lines of a rule's normal form, and of that of its negation.
+#[derive(Clone, Copy)]
+pub struct Counts {
+    pub lines: usize,
+    pub choices: usize,
+    pub negation_lines: usize,
+    pub negation_choices: usize,
+}
+
+// What the library says of a rule over a list.
+pub fn judge(list: &[u8], text: &[u8]) -> Result<Counts, Refusal>
     ensures { λ r. ⌜ Judged (now (list .entry)) (now (text .entry)) r ⌝ }
 {
     SignalList::check(list)?;
-    let _rule = Rule::read(SignalList::lenient(list), text)?;
-    Ok(())
+    let rule = NormalRule::read(SignalList::lenient(list), text)?;
+    let kept = Question::keep(&rule);
+    let broken = Question::break_only(&rule);
+    Ok(Counts {
+        lines: kept.table.lines().len(),
+        choices: kept.table.choices(),
+        negation_lines: broken.table.lines().len(),
+        negation_choices: broken.table.choices(),
+    })
 }
 
-// Does what was found fit the case? Lines and choices are counted in the normal form, so reading
-// alone takes such a rule.
-pub fn agrees(answer: &Answer, found: &Result<(), Refusal>) -> bool
+// Does what was found fit the case?
+pub fn agrees(answer: &Answer, found: &Result<Counts, Refusal>) -> bool
     ensures { λ r. ⌜ Decides r (Fits (now (answer .entry)) (now (found .entry))) ⌝ }
 {
     match found {
-        Ok(()) => matches!(
-            answer,
-            Answer::Accepted(_) | Answer::Lines | Answer::Choices
-        ),
+        Ok(counts) => match answer {
+            Answer::Accepted(measures) => {
+                measures.lines == counts.lines
+                    && measures.choices == counts.choices
+                    && measures.negation_lines == counts.negation_lines
+                    && measures.negation_choices == counts.negation_choices
+            }
+            _ => false,
+        },
         Err(refusal) => {
             refusal.number() == answer.number() && refusal.offset() == answer.offset()
         }

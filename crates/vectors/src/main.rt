@@ -5,6 +5,7 @@ mod answer;
 mod check;
 mod fault;
 mod fields;
+mod lines;
 mod row;
 mod tally;
 

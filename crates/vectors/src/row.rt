@@ -2,13 +2,16 @@
 //
 //   rule LIST TEXT REFUSAL OFFSET LINES CHOICES NEGLINES NEGCHOICES NODES VERDICT
 //   list BYTES lawful|unlawful
+//   ask LIST LINES LIMIT ANSWER NODES
 use crate::answer::Answer;
 use crate::fault::Fault;
 use crate::fault::FaultFromAlloc;
 use crate::fault::FaultFromUtf8;
 use crate::fields::bytes;
+use crate::lines::read_lines;
 use std::alloc::Global;
 use std::str::from_utf8;
+use tables::line::Line;
 
 // A line of cases. A new kind of case has its variant here and its arm in `Row::read`.
 #[derive(Drop)]
@@ -17,6 +20,7 @@ pub enum Row {
     Comment,
     Rule(RuleCase),
     List(ListCase),
+    Ask(AskCase),
 }
 
 // A rule text over a list of signals, and how it is answered.
@@ -25,6 +29,12 @@ pub struct RuleCase {
     pub list: Vec<u8>,
     pub text: Vec<u8>,
     pub answer: Answer,
+}
+
+// A table by its lines. What is asked of it, and how it is answered, no layer knows yet.
+#[derive(Drop)]
+pub struct AskCase {
+    pub lines: Vec<Line>,
 }
 
 // A list of signals, and whether it is lawful.
@@ -51,6 +61,12 @@ impl Row {
                 list: bytes(heap, list)?,
                 lawful: is_lawful(lawful)?,
             })),
+            ["ask", list, lines, _, _, _] => {
+                let _list = bytes(heap, list)?;
+                Ok(Row::Ask(AskCase {
+                    lines: read_lines(heap, lines)?,
+                }))
+            }
             _ => Err(Fault::Malformed),
         }
     }

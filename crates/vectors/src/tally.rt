@@ -1,9 +1,11 @@
 // Counts the cases in which the library agrees, by kind, and tells of each other one.
 use crate::answer::Answer;
 use crate::answer::AnswerDisplay;
+use crate::check::Counts;
 use crate::check::agrees;
 use crate::check::judge;
 use crate::fault::Fault;
+use crate::row::AskCase;
 use crate::row::ListCase;
 use crate::row::Row;
 use crate::row::RuleCase;
@@ -12,6 +14,7 @@ use rules::signals::SignalList;
 use std::alloc::AllocError;
 use std::fmt;
 use std::io;
+use tables::table::Table;
 
 // The counts so far.
 #[derive(Drop)]
@@ -28,17 +31,27 @@ pub struct Tally {
     list: u64,
     lawful: u64,
     unlawful: u64,
+    tables: u64,
     disagreements: u64,
 }
 
 // What the library found.
 #[derive(Clone, Copy)]
-struct Found(Result<(), Refusal>);
+struct Found(Result<Counts, Refusal>);
 
 impl fmt::Display for Found as FoundDisplay {
     fn fmt<W: fmt::Write>(&self, f: &mut fmt::Formatter<W>) -> fmt::Result {
         match self.0 {
-            Ok(()) => f.write_str("0"),
+            Ok(counts) => {
+                let lines = counts.lines;
+                let choices = counts.choices;
+                let negation_lines = counts.negation_lines;
+                let negation_choices = counts.negation_choices;
+                write!(
+                    f,
+                    "0 with {lines} {choices} {negation_lines} {negation_choices}"
+                )
+            }
             Err(refusal) => {
                 let number = refusal.number();
                 match refusal.offset() {
@@ -70,6 +83,7 @@ impl Tally {
             list: 0,
             lawful: 0,
             unlawful: 0,
+            tables: 0,
             disagreements: 0,
         }
     }
@@ -81,6 +95,7 @@ impl Tally {
             Ok(Row::Comment) => Ok(()),
             Ok(Row::Rule(case)) => self.rule(rt, &case),
             Ok(Row::List(case)) => self.list(rt, &case),
+            Ok(Row::Ask(case)) => self.ask(rt, &case),
             Err(Fault::Malformed) => {
                 up(&mut self.disagreements);
                 let row = self.row;
@@ -133,6 +148,17 @@ impl Tally {
         Ok(())
     }
 
+    // Counts a table that is one, or tells that it is none.
+    fn ask(&mut self, rt: &LibcRuntime, case: &AskCase) -> io::Result<()> {
+        if Table::from_lines(case.lines.as_slice()).is_some() {
+            up(&mut self.tables);
+            return Ok(());
+        }
+        up(&mut self.disagreements);
+        let row = self.row;
+        println!(rt, "row {row}: the lines are no table")
+    }
+
     // Tells the counts, at the end of the input.
     pub fn close(&self, rt: &LibcRuntime) -> io::Result<()> {
         rt.println(self)
@@ -152,6 +178,7 @@ impl fmt::Display for Tally as TallyDisplay {
             ("list", self.list),
             ("lists lawful", self.lawful),
             ("lists unlawful", self.unlawful),
+            ("tables", self.tables),
         ];
         for (kind, count) in counts {
             writeln!(f, "{kind}: {count}")?;

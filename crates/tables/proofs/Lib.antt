@@ -1,0 +1,16 @@
+pub mod Same
+pub mod Forms
+pub mod Places
+pub mod Normals
+pub mod Growth
+pub mod Duals
+pub mod Keys
+pub mod Counts
+pub mod Lawful
+pub mod Drafts
+pub mod Made
+pub mod Laid
+pub mod Limited
+pub mod Asking
+pub mod Stated
+pub mod Determined
