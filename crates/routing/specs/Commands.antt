@@ -9,9 +9,9 @@ use lib.ListN.{length, getD}
 use Rattle.std.specs.declared.option.Option.{Option}
 use Rattle.std.specs.declared.option.Option.the-variants.{Some, None}
 use Rattle.routing.specs.declared.command.Verb.{Verb}
-use Rattle.routing.specs.declared.command.Verb.the-variants.{Signals, Rule, Table, Question}
+use Rattle.routing.specs.declared.command.Verb.the-variants.{Signals, Rule, Table, Question, Graph}
 use Rattle.routing.specs.declared.command.Command.{Command}
-use Rattle.routing.specs.declared.command.Command.the-variants.{Signals as Take, Rule as Read, Table as Tabulate, Question as Ask}
+use Rattle.routing.specs.declared.command.Command.the-variants.{Signals as Take, Rule as Read, Table as Tabulate, Question as Ask, Graph as Explore}
 use Rattle.routing.specs.declared.command.Line.{Line}
 use Rattle.routing.specs.declared.command.Line.the-variants.{Blank, Order, Short, Unknown}
 use Rattle.routing.specs.Lines.{Cuts}
@@ -22,6 +22,7 @@ name Signals = codes "signals"
 name Rule = codes "rule"
 name Table = codes "table"
 name Question = codes "question"
+name Graph = codes "graph"
 
 -- the command of a name, or that there is none
 abbrev pub Named : List ℕ → Option Verb → Type 0
@@ -34,12 +35,14 @@ verb (Take t) = Signals
 verb (Read t) = Rule
 verb (Tabulate t) = Table
 verb (Ask t) = Question
+verb (Explore t) = Graph
 
 abbrev pub subject : Command → List ℕ
 subject (Take t) = t .now
 subject (Read t) = t .now
 subject (Tabulate t) = t .now
 subject (Ask t) = t .now
+subject (Explore t) = t .now
 
 abbrev pub About : Verb → List ℕ → Command → Type 0
 About v rest k = (verb k ≡ v) × (subject k ≡ rest)

@@ -9,6 +9,7 @@ pub enum Verb {
     Rule,
     Table,
     Question,
+    Graph,
 }
 
 // What the clerk asks for.
@@ -22,6 +23,8 @@ pub enum Command<'a> {
     Table(&'a [u8]),
     // make the normal table of keeping one rule and breaking another, by both texts with a slash between
     Question(&'a [u8]),
+    // explore the graph of keeping a rule, by its text; `dot` after it asks for a drawing
+    Graph(&'a [u8]),
 }
 
 // A line, by what is to be done about it.
@@ -46,6 +49,7 @@ impl Verb {
             b"rule" => Some(Verb::Rule),
             b"table" => Some(Verb::Table),
             b"question" => Some(Verb::Question),
+            b"graph" => Some(Verb::Graph),
             _ => None,
         }
     }
@@ -59,6 +63,7 @@ impl Verb {
             Verb::Rule => Command::Rule(rest),
             Verb::Table => Command::Table(rest),
             Verb::Question => Command::Question(rest),
+            Verb::Graph => Command::Graph(rest),
         }
     }
 }

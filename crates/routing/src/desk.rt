@@ -4,6 +4,7 @@ use crate::bytes::ShownDisplay;
 use crate::command::Command;
 use crate::command::Line;
 use crate::command::Verb;
+use crate::drawing::tell_graph;
 use crate::formula::Formula;
 use crate::formula::FormulaDisplay;
 use crate::refused::Pointed;
@@ -91,6 +92,7 @@ impl Desk {
             Command::Rule(text) => read_rule(rt, self.names(rt)?, text),
             Command::Table(text) => tell_table(rt, self.names(rt)?, text, &[]),
             Command::Question(texts) => self.question(rt, texts),
+            Command::Graph(text) => tell_graph(rt, self.names(rt)?, text),
         }
     }
 
@@ -140,6 +142,7 @@ fn wanted(verb: Verb) -> &'static str {
         Verb::Table => "after 'table' write a blank and the rule's text.",
         Verb::Question =>
             "after 'question' write a blank, the text to keep, a slash, and the text to break.",
+        Verb::Graph => "after 'graph' write a blank and the rule's text.",
     }
 }
 

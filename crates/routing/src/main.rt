@@ -5,7 +5,9 @@
 mod bytes;
 mod command;
 mod desk;
+mod drawing;
 mod formula;
+mod graph;
 mod refused;
 mod table;
 mod words;

@@ -17,6 +17,8 @@ use Rattle.tables.specs.Lines.{choices}
 use Rattle.tables.specs.Limits.{kept, broken}
 use Rattle.tables.specs.Questions.{Says, Fails}
 use Rattle.vectors.specs.declared.answer.Measures.{Measures}
+use Rattle.vectors.specs.declared.answer.Verdict.{Verdict}
+use Rattle.vectors.specs.declared.answer.Verdict.the-variants.{Run, None as NoRun, Spent}
 use Rattle.vectors.specs.declared.check.Counts.{Counts}
 use Rattle.vectors.specs.declared.answer.Answer.{Answer}
 use Rattle.vectors.specs.declared.answer.Answer.the-variants.{Accepted, Length, Letter, Signal, Form, Lines, Choices, List as Unlawful}
@@ -31,6 +33,22 @@ number (Form at) = 8
 number Lines = 9
 number Choices = 10
 number Unlawful = 13
+
+-- how many nodes there are, where that is said
+abbrev pub counted : Verdict → Option ℕ
+counted (Run n) = Some n
+counted (NoRun n) = Some n
+counted Spent = None
+
+abbrev pub nodes : Answer → Option ℕ
+nodes (Accepted m) = counted (m .verdict)
+nodes Length = None
+nodes (Letter at) = None
+nodes (Signal at) = None
+nodes (Form at) = None
+nodes Lines = None
+nodes Choices = None
+nodes Unlawful = None
 
 -- where the fault stands
 abbrev pub offset : Answer → Option ℕ

@@ -1,6 +1,6 @@
 // How a rule is answered, by a row's last eight fields.
 ghost use mathlib.Core.Path.{_≡_};
-ghost use Rattle.vectors.specs.Answers.{number, offset};
+ghost use Rattle.vectors.specs.Answers.{number, nodes, offset};
 use crate::fault::Fault;
 use crate::fields::number;
 use std::fmt;
@@ -61,6 +61,20 @@ impl Answer {
             Answer::Lines => 9,
             Answer::Choices => 10,
             Answer::List => 13,
+        }
+    }
+
+    // How many nodes the graph has, where that is said.
+    pub fn nodes(&self) -> Option<usize>
+        ensures { λ r. ⌜ r ≡ nodes (now (self .entry)) ⌝ }
+    {
+        match self {
+            Answer::Accepted(measures) => match measures.verdict {
+                Verdict::Run(nodes) => Some(nodes),
+                Verdict::None(nodes) => Some(nodes),
+                Verdict::Spent => None,
+            },
+            _ => None,
         }
     }
 

@@ -4,8 +4,16 @@ ghost use Rattle.vectors.specs.Answers.{Judged, Fits};
 use crate::answer::Answer;
 use rules::refusal::Refusal;
 use rules::signals::SignalList;
+use std::alloc::AllocError;
+use std::alloc::Global;
+use survey::survey;
 use tables::limits::NormalRule;
 use tables::question::Question;
+use tables::table::Table;
+use walk::outline::Outline;
+
+// Graphs of more nodes are not counted.
+const NODES: usize = 1024;
 
 // The lines and choice lines of a rule's normal form, and of that of its negation.
 #[derive(Clone, Copy)]
@@ -49,5 +57,24 @@ pub fn agrees(answer: &Answer, found: &Result<Counts, Refusal>) -> bool
         Err(refusal) => {
             refusal.number() == answer.number() && refusal.offset() == answer.offset()
         }
+    }
+}
+
+// How many nodes the graph of keeping a rule has; `None` where it is not counted.
+pub fn nodes_of_rule(heap: Global, list: &[u8], text: &[u8]) -> Result<Option<usize>, AllocError> {
+    match Question::read_strictly(list, text, &[]) {
+        Ok(question) => nodes_of_table(heap, &question.table),
+        Err(_) => Ok(None),
+    }
+}
+
+// The same of a table.
+pub fn nodes_of_table(heap: Global, table: &Table) -> Result<Option<usize>, AllocError> {
+    match Outline::of(table) {
+        Some(outline) => {
+            let count = survey(heap, &outline, NODES)?.len();
+            Ok(if count > NODES { None } else { Some(count) })
+        }
+        None => Ok(None),
     }
 }

@@ -8,6 +8,7 @@ use crate::fault::Fault;
 use crate::fault::FaultFromAlloc;
 use crate::fault::FaultFromUtf8;
 use crate::fields::bytes;
+use crate::fields::number;
 use crate::lines::read_lines;
 use std::alloc::Global;
 use std::str::from_utf8;
@@ -31,10 +32,12 @@ pub struct RuleCase {
     pub answer: Answer,
 }
 
-// A table by its lines. What is asked of it, and how it is answered, no layer knows yet.
+// A table by its lines, and how many nodes its graph has, where that is said. What is asked of it, and how it is
+// answered, no layer knows yet.
 #[derive(Drop)]
 pub struct AskCase {
     pub lines: Vec<Line>,
+    pub nodes: Option<usize>,
 }
 
 // A list of signals, and whether it is lawful.
@@ -61,10 +64,11 @@ impl Row {
                 list: bytes(heap, list)?,
                 lawful: is_lawful(lawful)?,
             })),
-            ["ask", list, lines, _, _, _] => {
+            ["ask", list, lines, _, _, nodes] => {
                 let _list = bytes(heap, list)?;
                 Ok(Row::Ask(AskCase {
                     lines: read_lines(heap, lines)?,
+                    nodes: given(nodes)?,
                 }))
             }
             _ => Err(Fault::Malformed),
@@ -78,5 +82,13 @@ fn is_lawful(field: &str) -> Result<bool, Fault> {
         "lawful" => Ok(true),
         "unlawful" => Ok(false),
         _ => Err(Fault::Malformed),
+    }
+}
+
+// A number, or that it is not given.
+fn given(field: &str) -> Result<Option<usize>, Fault> {
+    match field {
+        "-" => Ok(None),
+        _ => Ok(Some(number(field)?)),
     }
 }

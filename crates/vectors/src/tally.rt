@@ -4,6 +4,8 @@ use crate::answer::AnswerDisplay;
 use crate::check::Counts;
 use crate::check::agrees;
 use crate::check::judge;
+use crate::check::nodes_of_rule;
+use crate::check::nodes_of_table;
 use crate::fault::Fault;
 use crate::row::AskCase;
 use crate::row::ListCase;
@@ -109,7 +111,8 @@ impl Tally {
     fn rule(&mut self, rt: &LibcRuntime, case: &RuleCase) -> io::Result<()> {
         let answer = case.answer;
         let found = judge(case.list.as_slice(), case.text.as_slice());
-        if agrees(&answer, &found) {
+        let nodes = nodes_of_rule(rt.alloc(), case.list.as_slice(), case.text.as_slice())?;
+        if agrees(&answer, &found) && nodes == answer.nodes() {
             up(self.of(&answer));
             return Ok(());
         }
@@ -148,15 +151,20 @@ impl Tally {
         Ok(())
     }
 
-    // Counts a table that is one, or tells that it is none.
+    // Counts a table that is one, with its nodes where they are said, or tells that it is not.
     fn ask(&mut self, rt: &LibcRuntime, case: &AskCase) -> io::Result<()> {
-        if Table::from_lines(case.lines.as_slice()).is_some() {
+        let row = self.row;
+        let Some(table) = Table::from_lines(case.lines.as_slice()) else {
+            up(&mut self.disagreements);
+            return println!(rt, "row {row}: the lines are no table");
+        };
+        let nodes = nodes_of_table(rt.alloc(), &table)?;
+        if case.nodes.is_none() || nodes == case.nodes {
             up(&mut self.tables);
             return Ok(());
         }
         up(&mut self.disagreements);
-        let row = self.row;
-        println!(rt, "row {row}: the lines are no table")
+        println!(rt, "row {row}: other nodes")
     }
 
     // Tells the counts, at the end of the input.

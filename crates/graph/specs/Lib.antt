@@ -1,0 +1,10 @@
+pub mod Sets
+pub mod Numbers
+pub mod Unfolding
+pub mod Graphs
+pub mod Pass
+pub mod Moves
+pub mod Tests
+pub mod Truths
+pub mod Claims
+pub mod Rows

@@ -1,0 +1,11 @@
+pub mod Ins
+pub mod Runs
+pub mod Gather
+pub mod Denials
+pub mod Judges
+pub mod Evs
+pub mod Walks
+pub mod Puts
+pub mod Makes
+pub mod Ready
+pub mod Steps

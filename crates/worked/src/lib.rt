@@ -1,0 +1,5 @@
+// Worked examples of the method: small graphs, explored by a plain loop.
+#[cfg(test)]
+mod explored;
+#[cfg(test)]
+mod tests;
