@@ -155,7 +155,7 @@ pub one-initial : (t : Lines) (m n : Node) → Initial t m → Initial t n → m
 one-initial t m n x y =
     same-parts m n (one-set _ (m .label) (n .label) (x .label) (y .label)) (x .marks ∙ sym (y .marks)) (x .history ∙ sym (y .history))
 
--- V without what is marked, joined with the old history unless that was V
+-- what is not marked, and what the old history had unless the node is an ω-node
 module _ (t : Lines) (o : Ordered t) (n : Node) (c : Choice) where
   abbrev Kept : ℕ → ℕ → Type 0
   Kept marks e = (e < eventuality t (length t)) × ((has marks e ≡ true → ⊥) ⊎ ((has (n .history) e ≡ true) × (Omega t n → ⊥)))

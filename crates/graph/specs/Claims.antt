@@ -41,7 +41,7 @@ Loop-runs =
     (t : Lines) → Lawful t → (i n : Node) → Initial t i → (r : Run) → Way t i (r .lead) n → Omega t n → Way t n (r .cycle) n
     → Keeps (root t) r
 
--- a run exists exactly when some ω-node of the graph reaches itself
+-- there is a run just where the graph has an ω-loop
 abbrev pub Graph-decides : Type 0
 Graph-decides = (t : Lines) → Lawful t → (l : List Node) → Graph t l → ((r : Run) × Keeps (root t) r) ↔ Loops t
 

@@ -35,7 +35,7 @@ node-of l a = getD l a (record { label = 0; marks = 0; history = 0 })
 abbrev pub Listed : List Node → Node → Type 0
 Listed l n = (a : ℕ) × (a < length l) × (node-of l a ≡ n)
 
--- no label with its history stands twice
+-- no node twice
 abbrev pub Distinct : List Node → Type 0
 Distinct l = (a b : ℕ) → a < length l → b < length l → node-of l a ≡ node-of l b → a ≡ b
 
@@ -55,7 +55,7 @@ pub record Ranked : Type 0 where
 abbrev pub entry : List Ranked → ℕ → Ranked
 entry l a = getD l a (record { node = record { label = 0; marks = 0; history = 0 }; rank = 0 })
 
--- no label with its history stands twice among them
+-- no node twice among them
 abbrev pub Once : List Ranked → Type 0
 Once l = (a b : ℕ) → a < length l → b < length l → entry l a .node ≡ entry l b .node → a ≡ b
 

@@ -107,7 +107,7 @@ isOmega t n = eqb (n .history) (everything t)
 unfoldable pub initial : Lines → Node
 initial t = record { label = put t (add 0 (length t - 1)); marks = 0; history = 0 }
 
--- V without what is marked next, joined with the old history unless that was V
+-- what is not marked next, and what the old history had unless the node is an ω-node
 unfoldable pub successor : Lines → Node → Choice → Node
 successor t n c =
     record {

@@ -89,7 +89,7 @@ Label t S m = (k : ℕ) → (has m k ≡ true) ↔ (Put t S k × (stays (line t 
 abbrev pub Needs : Lines → Node → Choice → Bool → ℕ → Type 0
 Needs t n c b s = (k : ℕ) × Appears t n c k × (line t k ≡ Line.Literal s b)
 
--- a choice is a branch unless F or a signal and its negation appear
+-- under a branch nothing contradicts: no F, and no signal together with its negation
 pub record Branch (t : Lines) (n : Node) (c : Choice) : Type 0 where
   pub no-false : (k : ℕ) → Appears t n c k → line t k ≡ Line.False → ⊥
   pub no-clash : (s : ℕ) → Needs t n c true s → Needs t n c false s → ⊥
@@ -102,13 +102,13 @@ Asks t n c b p = (s : ℕ) → (has p s ≡ true) ↔ Needs t n c b s
 abbrev pub Omega : Lines → Node → Type 0
 Omega t n = (e : ℕ) → (has (n .history) e ≡ true) ↔ (e < total isEventuality t)
 
--- the root is put into an empty label, with an empty history
+-- the label of the root alone, no marks, and no history
 pub record Initial (t : Lines) (n : Node) : Type 0 where
   pub label : Label t (λ k. k ≡ length t - 1) (n .label)
   pub marks : n .marks ≡ 0
   pub history : n .history ≡ 0
 
--- the history is V without what is marked in the label, joined with the old history unless that was V
+-- the history has what is not marked now, and what the old history had, but that of an ω-node is forgotten
 pub record Successor (t : Lines) (n : Node) (c : Choice) (m : Node) : Type 0 where
   pub label : Label t (Next t n c) (m .label)
   pub marks : (e : ℕ) → (has (m .marks) e ≡ true) ↔ Later t n c e

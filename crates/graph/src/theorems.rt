@@ -30,7 +30,7 @@ pub fn loop_runs() -> bool
     true
 }
 
-// A run exists exactly when some ω-node of the graph reaches itself.
+// There is a run just where the graph has an ω-loop.
 pub fn graph_decides() -> bool
     ensures { λ _. ⌜ Graph-decides ⌝ }
 {

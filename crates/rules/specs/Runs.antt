@@ -29,7 +29,7 @@ Holds (binary Or f g) w i = Holds f w i ⊎ Holds g w i
 Holds (binary Implies f g) w i = Holds f w i → Holds g w i
 Holds (binary Equivalent f g) w i = (Holds f w i → Holds g w i) × (Holds g w i → Holds f w i)
 
--- a lead-in of finitely many positions, and a cycle of at least one that is repeated for ever
+-- positions that come once, the lead-in, and then positions that come again and again, the cycle
 pub record Run : Type 0 where
   pub lead : List ℕ
   pub cycle : List ℕ
@@ -39,7 +39,7 @@ pub record Run : Type 0 where
 unfoldable pub at : Run → ℕ → ℕ
 at r i = cond (ltb i (length (r .lead))) (getD (r .lead) i 0) (getD (r .cycle) ((i - length (r .lead)) % length (r .cycle)) 0)
 
--- a run keeps a formula that is true at its first position, and otherwise breaks it
+-- to keep a formula is to make it true at time 0, and not to keep it is to break it
 abbrev pub Keeps : Formula → Run → Type 0
 Keeps f r = Holds f (at r) 0
 

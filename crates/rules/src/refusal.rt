@@ -8,7 +8,7 @@ ghost use Rattle.rules.specs.Refusals.{refusalOf, told, word, offsetOf};
 pub enum FaultKind {
     // a byte that starts no token
     Letter,
-    // a name that is too long or not listed
+    // a name that the list does not have
     Signal,
     // a token that cannot stand where it stands, or the end where one is missing
     Form,

@@ -1,4 +1,4 @@
--- Numbering keys of any kind: a key gets its equal's number, or the next one.
+-- Numbering keys of any kind: equal keys share a number, and new keys are counted on.
 use mathlib.Core.Path.{_≡_}
 use mathlib.Core.Logic.{_⊎_}
 use mathlib.Core.List.{List}

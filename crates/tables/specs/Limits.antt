@@ -1,4 +1,4 @@
--- The limits on a rule: its normal form, and that of its negation, have at most 60 lines and 8 choice lines each.
+-- The limits on a rule: 60 lines and 8 choice lines for each of its two normal forms.
 use mathlib.Core.Path.{_≡_}
 use mathlib.Core.Logic.{_⊎_}
 use mathlib.Core.Bool.{true, false}

@@ -72,7 +72,7 @@ abbrev pub RuleOf : List ℕ → List ℕ → Result NormalRule Refusal → Type
 RuleOf ns text (Ok r) = Says ns text (formulaOf (r .rule))
 RuleOf ns text (Err e) = Fails ns text e
 
--- the texts of X and Y say what is asked; an empty text stands for an absent rule
+-- the texts of X and Y say what is asked; a rule that is absent has no bytes
 abbrev pub Texts : List ℕ → List ℕ → List ℕ → Asked → Type 0
 Texts ns x y (keeps f) = Says ns x f × (y ≡ [])
 Texts ns x y (breaks g) = (x ≡ []) × Says ns y g

@@ -6,7 +6,7 @@ ghost use Rattle.tables.specs.Limits.{kept, broken};
 ghost use Rattle.tables.specs.Lines.{choices};
 use rules::arena::Rule;
 
-// A rule's normal form, and that of its negation, has at most so many lines, and so many choice lines.
+// So many lines, and so many choice lines, may each of a rule's two normal forms have.
 pub const RULE_LINES: usize = 60;
 
 pub const RULE_CHOICES: usize = 8;

@@ -1,4 +1,4 @@
-// The numbering of keys over a lent slice, for every kind of key that can tell sameness.
+// The numbering of keys over a slice that the caller lends, for any keys that can be compared.
 ghost use Rattle.tables.specs.Keys.{Sought, Numbered};
 
 // The number of the first key that equals `key`.
@@ -13,7 +13,7 @@ pub fn number_of<K: PartialEq<K>>(keys: &[K], key: &K) -> Option<usize>
     None
 }
 
-// Of the keys in the slice the first `used` have numbers. `key` gets its equal's number, or else the next one,
+// Of the keys in the slice the first `used` have numbers. `key` has the number of the one that equals it, or becomes the next,
 // and then stands in that place; `None` where the slice is full.
 pub fn number<K: PartialEq<K> + Copy>(keys: &mut [K], used: usize, key: K) -> Option<usize>
     ensures { λ r. ⌜ Numbered (K·PartialEq .equals) (now (keys .entry)) used key r (now (keys .exit)) ⌝ }

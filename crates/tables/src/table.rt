@@ -10,7 +10,7 @@ pub const TABLE_LINES: usize = 121;
 
 pub const TABLE_CHOICES: usize = 16;
 
-// It has a line, operands are earlier lines, no two lines are alike, and there are at most 121 lines and 16 choice lines.
+// Its facts: one line at least, operands before their line, no line twice, and both bounds above.
 #[derive(Drop)]
 pub struct Table {
     pub(crate) lines: [Line; TABLE_LINES],

@@ -52,7 +52,7 @@ impl Outline {
         }
     }
 
-    // V without what is put off, joined with the old history unless that was V.
+    // What is not put off, and what the old history had unless the node is an ω-node.
     pub(crate) fn history(&self, node: Node, later: u16) -> u16
         ensures { λ r. ⌜ r ≡ history-of (outlined (now (self .entry))) node later ⌝ }
     {
@@ -68,7 +68,7 @@ impl Outline {
         node.history == self.all
     }
 
-    // The initial node: the root put into an empty label.
+    // The initial node: the label of the root alone.
     pub fn initial(&self) -> Node
         ensures is { λ r. ⌜ r ≡ initial (outlined (now (self .entry))) ⌝ }
         ensures means { λ r. ⌜ Initial (outlined (now (self .entry))) r ⌝ }
