@@ -5,7 +5,7 @@ use crate::refused::Told;
 use crate::run::{RunTable, SHOWN_POSITIONS};
 use crate::table::parted;
 use graph::node::Ranked;
-use hex::{HexFault, decode};
+use hexadecimal::{HexFault, decode};
 use judge::judge::{judge, limits_of};
 use judge::verdict::Verdict;
 use judge::workspace::Workspace;

@@ -2,6 +2,8 @@
 //
 // `command` tells what a line asks for, `desk` carries it out and remembers; `formula`, `refused`,
 // `words` and `bytes` show formulas, refusals, names and bytes.
+#![tactic(auto)]
+
 mod bytes;
 mod command;
 mod desk;

@@ -3,6 +3,8 @@
 // `signals` checks a list of signal names and looks a name up; `reader` cuts a rule text into
 // tokens; `rule` reads a whole text as one formula, or tells its first fault.
 // What a formula means, over runs, stands in `specs/Runs.antt`.
+#![tactic(auto)]
+
 pub mod arena;
 mod letters;
 pub mod reader;

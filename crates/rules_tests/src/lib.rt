@@ -1,4 +1,6 @@
 // Examples of reading: what is easy to get wrong in lists, tokens and rule texts.
+#![tactic(auto)]
+
 #[cfg(test)]
 mod lists;
 #[cfg(test)]

@@ -1,4 +1,6 @@
 // A plain survey of a graph: its nodes in the order in which a loop meets them, for programs that show or count them.
+#![tactic(auto)]
+
 use graph::node::Node;
 use std::alloc::{AllocError, Global};
 use tables::numbering::number_of;

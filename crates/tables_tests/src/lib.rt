@@ -1,4 +1,6 @@
 // Examples of normal tables: the limits, shared lines, and questions from texts.
+#![tactic(auto)]
+
 #[cfg(test)]
 mod limits;
 #[cfg(test)]

@@ -1,6 +1,8 @@
 // Runs outside cases, a line each, against the library, and counts where the two agree.
 //
 // `row` tells what a line says, `check` holds it against the library, and `tally` counts.
+#![tactic(auto)]
+
 mod answer;
 mod check;
 mod fault;

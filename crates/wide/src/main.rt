@@ -1,4 +1,6 @@
 // Walks all branches of a node with sixteen choice lines.
+#![tactic(auto)]
+
 use std::io;
 use tables::line::Line;
 use tables::table::Table;

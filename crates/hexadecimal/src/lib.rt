@@ -1,6 +1,8 @@
 // Bytes written in hexadecimal, two small digits for each.
+#![tactic(auto)]
+
 ghost use Rattle.std.specs.Prelude.{◌≡◌, MatchResult};
-ghost use Rattle.hex.specs.Hex.{Valued, Paired, spelled, Unspelled};
+ghost use Rattle.hexadecimal.specs.Hex.{Valued, Paired, spelled, Unspelled};
 
 use std::alloc::Global;
 

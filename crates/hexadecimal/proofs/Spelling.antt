@@ -1,6 +1,6 @@
 -- Bytes from their hexadecimal digits, one after the other.
 use Rattle.std.proofs.Common.{◌≡◌, ℕ, zero, suc, ◌+◌, ◌-◌, ◌/◌, ◌%◌, ◌<◌, ◌≤◌, List, [], ◌∷◌, ◌++◌, length, get_or, take, drop, sym, refl, ap, ◌∙◌, append_assoc, append-nil, arith, take_all}
-use Rattle.hex.specs.Hex.{figure, spelled, Bytes}
+use Rattle.hexadecimal.specs.Hex.{figure, spelled, Bytes}
 
 spelled_append : (xs ys : List ℕ) → spelled (xs ++ ys) ≡ spelled xs ++ spelled ys
 spelled_append [] ys = refl

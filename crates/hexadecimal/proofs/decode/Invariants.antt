@@ -1,6 +1,6 @@
 use Rattle.std.proofs.Common.{◌≡◌, ◌++◌, length, vec_items}
-use Rattle.hex.specs.Hex.{spelled}
-use Rattle.hex.proofs.decode.Given as goal
+use Rattle.hexadecimal.specs.Hex.{spelled}
+use Rattle.hexadecimal.proofs.decode.Given as goal
 
 abbrev pub invariant-loop-rest : goal.invariant-loop-rest
 invariant-loop-rest l = spelled (vec_items l.bytes) ++ l.rest ≡ l.digits

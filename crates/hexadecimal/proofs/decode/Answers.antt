@@ -1,6 +1,6 @@
 use Rattle.std.proofs.Common.{◌≡◌, ℕ, ◌≤◌, List, length, vec_items, rules}
-use Rattle.hex.proofs.Spelling.{one_more, none_left, no_pair, one_left}
-use Rattle.hex.proofs.decode.Goals as goal
+use Rattle.hexadecimal.proofs.Spelling.{one_more, none_left, no_pair, one_left}
+use Rattle.hexadecimal.proofs.decode.Goals as goal
 
 pub loop-rest-preserved : goal.loop-rest-preserved
 loop-rest-preserved c =

@@ -1,7 +1,7 @@
 -- Bytes in hexadecimal, two small digits for each.
 use Rattle.std.specs.Prelude.{◌≡◌, ℕ, ◌+◌, ◌/◌, ◌%◌, ◌<◌, cond, List, [], ◌∷◌, Some, None, Option, ◌≢◌, nat_lt}
-use Rattle.hex.specs.declared.HexFault.{HexFault}
-use Rattle.hex.specs.declared.HexFault.TheVariants.{Digits, Memory}
+use Rattle.hexadecimal.specs.declared.HexFault.{HexFault}
+use Rattle.hexadecimal.specs.declared.HexFault.TheVariants.{Digits, Memory}
 
 -- the digit of a value below 16: 0 to 9, then a to f
 abbrev pub figure : ℕ → ℕ
