@@ -8,7 +8,6 @@ use Rattle.rules.specs.declared.syntax.Binary.{Binary}
 use Rattle.rules.specs.declared.syntax.Binary.TheVariants.{And}
 use Rattle.rules.specs.declared.syntax.Word.{Word}
 use Rattle.rules.specs.declared.syntax.Word.TheVariants.{Leaf, Prefix, Infix, Open, Close}
-use Rattle.rules.specs.Signals.{words}
 use Rattle.rules.specs.Formula.{Formula, atom, unary, binary, spell}
 use Rattle.rules.specs.Text.{Lexed, done, stop, word}
 use Rattle.rules.specs.Owed.{Owed, formula, sign, bracket, meets, refused, or_refused, judge, Splits}

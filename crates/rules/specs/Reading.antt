@@ -1,5 +1,5 @@
 -- The next token of a text: which one, where it stands, and where the reader stands after it.
-use Rattle.std.specs.Prelude.{◌≡◌, ℕ, ◌+◌, ◌-◌, ◌<◌, true, List, length, Some, None, Ok, Err, Option, Result, slice_index, slice_range}
+use Rattle.std.specs.Prelude.{◌≡◌, ℕ, ◌+◌, ◌<◌, true, List, length, Some, None, Ok, Err, Option, Result, slice_index, slice_range}
 use Rattle.rules.specs.declared.refusal.FaultKind.{FaultKind}
 use Rattle.rules.specs.declared.refusal.FaultKind.TheVariants.{Letter, Signal as Unlisted, Form as Misplaced}
 use Rattle.rules.specs.declared.refusal.Fault.{Fault}

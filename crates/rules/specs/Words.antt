@@ -1,5 +1,5 @@
 -- What the steps of the rule reader hear: the next word, a sign, a closing bracket.
-use Rattle.std.specs.Prelude.{◌≡◌, ℕ, ◌<◌, List, [], ◌∷◌, length, Some, None, Ok, Err, Option, Result}
+use Rattle.std.specs.Prelude.{◌≡◌, ℕ, ◌<◌, List, ◌∷◌, length, Some, None, Ok, Err, Option, Result}
 use Rattle.rules.specs.declared.refusal.Fault.{Fault}
 use Rattle.rules.specs.declared.syntax.Binary.{Binary}
 use Rattle.rules.specs.declared.syntax.Word.{Word}

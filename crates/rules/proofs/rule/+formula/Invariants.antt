@@ -1,5 +1,4 @@
 use Rattle.std.proofs.Common.{◌-◌, length}
-use Rattle.rules.specs.Runs.{at}
 use Rattle.rules.proofs.rule.+formula.Given as goal
 
 abbrev pub decreases-formula : goal.decreases-formula

@@ -9,22 +9,22 @@ use Rattle.std.proofs.lemmas.Bool.Decides.{Decides-eqb}
 
 pub returns-then-eq : goal.returns-then-eq
 returns-then-eq c =
-    let s = place_split c.args.name.now c.args.bytes.now c.words.from c.run-end-end.result c.words.number c.run-end-end.ensures.0 in
-    let f = found_here c.args.name.now _ (others (drop c.run-end-end.result c.args.bytes.now)) c.words.number ((slice_eq-Decides Decides-eqb _ _ _ c.eq.ensures).0 c.if-eq.true) in
+    let s = place_split c.args.name.now c.args.bytes.now c.words.from c.run_end-end.result c.words.number c.run_end-end.ensures.0 in
+    let f = found_here c.args.name.now _ (others (drop c.run_end-end.result c.args.bytes.now)) c.words.number ((slice_eq-Decides Decides-eqb _ _ _ c.eq.ensures).0 c.if-eq.true) in
     sym f ∙ sym s ∙ c.words.invariant.2
 
 pub returns-then-end-bytes : goal.returns-then-end-bytes
 returns-then-end-bytes c =
     let bytes = c.args.bytes.now in
-    let s = place_split c.args.name.now bytes c.words.from c.run-end-end.result c.words.number c.run-end-end.ensures.0 in
-    let f = not_here c.args.name.now _ (others (drop c.run-end-end.result bytes)) c.words.number (λ e. both_ways _ c.if-eq.false ((slice_eq-Decides Decides-eqb _ _ _ c.eq.ensures).1 e)) in
-    let z = ap (λ (ys : List ℕ). place_of c.args.name.now (others ys) (c.words.number + 1)) (drop_all c.run-end-end.result bytes c.if-end-bytes.true) in
+    let s = place_split c.args.name.now bytes c.words.from c.run_end-end.result c.words.number c.run_end-end.ensures.0 in
+    let f = not_here c.args.name.now _ (others (drop c.run_end-end.result bytes)) c.words.number (λ e. both_ways _ c.if-eq.false ((slice_eq-Decides Decides-eqb _ _ _ c.eq.ensures).1 e)) in
+    let z = ap (λ (ys : List ℕ). place_of c.args.name.now (others ys) (c.words.number + 1)) (drop_all c.run_end-end.result bytes c.if-end-bytes.true) in
     sym z ∙ sym f ∙ sym s ∙ c.words.invariant.2
 
 pub words-preserved : goal.words-preserved
 words-preserved c =
     let bytes = c.args.bytes.now in
-    let s = place_split c.args.name.now bytes c.words.from c.run-end-end.result c.words.number c.run-end-end.ensures.0 in
-    let f = not_here c.args.name.now _ (others (drop c.run-end-end.result bytes)) c.words.number (λ e. both_ways _ c.if-eq.false ((slice_eq-Decides Decides-eqb _ _ _ c.eq.ensures).1 e)) in
-    let z = ap (λ (ys : List ℕ). place_of c.args.name.now (others ys) (c.words.number + 1)) (drop_more bytes c.run-end-end.result 0 c.if-end-bytes.false) in
-    (omega (arith, c.if-end-bytes.false), omega (arith, c.words.invariant.1, c.run-end-end.ensures.1), sym z ∙ sym f ∙ sym s ∙ c.words.invariant.2)
+    let s = place_split c.args.name.now bytes c.words.from c.run_end-end.result c.words.number c.run_end-end.ensures.0 in
+    let f = not_here c.args.name.now _ (others (drop c.run_end-end.result bytes)) c.words.number (λ e. both_ways _ c.if-eq.false ((slice_eq-Decides Decides-eqb _ _ _ c.eq.ensures).1 e)) in
+    let z = ap (λ (ys : List ℕ). place_of c.args.name.now (others ys) (c.words.number + 1)) (drop_more bytes c.run_end-end.result 0 c.if-end-bytes.false) in
+    (omega (arith, c.if-end-bytes.false), omega (arith, c.words.invariant.1, c.run_end-end.ensures.1), sym z ∙ sym f ∙ sym s ∙ c.words.invariant.2)

@@ -1,4 +1,4 @@
-use Rattle.std.proofs.Common.{◌≡◌, ℕ, ◌-◌, take, refl, ap, arith}
+use Rattle.std.proofs.Common.{◌≡◌, ℕ, ◌-◌, take, ap, arith}
 use Rattle.rules.proofs.Growing.{shows}
 use Rattle.rules.proofs.arena.Rule.entries.Goals as goal
 

@@ -4,11 +4,11 @@ use Rattle.rules.specs.Letters.{blank, small}
 use Rattle.rules.proofs.Classes.{stops_at, class_other, NoSign}
 use Rattle.rules.proofs.reader.Reader.next_token.Goals as goal
 
-pub returns-in-default : goal.returns-in-default
-returns-in-default c =
+pub returns-in_default : goal.returns-in_default
+returns-in_default c =
     let xs = c.args.self.now.text.now in
-    let i : ℕ = c.run-end-at.result in
-    let e : i ≡ c.args.self.now.at + prefix_len blank (drop c.args.self.now.at xs) = c.run-end-at.ensures.0 in
+    let i : ℕ = c.run_end-at.result in
+    let e : i ≡ c.args.self.now.at + prefix_len blank (drop c.args.self.now.at xs) = c.run_end-at.ensures.0 in
     let l : i < length xs = c.if-at-text.false in
     let P : ℕ → Type 0 = λ k. k < length xs in
     let Q : ℕ → Type 0 = λ k. blank (get_or xs k 0) ≡ false in
