@@ -12,46 +12,46 @@ use Rattle.tables.proofs.Made.{length_drafted, draft_tidy}
 use Rattle.tables.proofs.Laid.{mode_under, joint_under, went_leaf, went_over, went_join, full_over, full_right, full_left, went_within, went_known, went_learnt, stopped, stands_told, below_up, inside_top}
 use Rattle.tables.proofs.normal.+lay_pair_place.Goals as goal
 
-pub lay-returns-in-err-number : goal.lay-returns-in-err-number
-lay-returns-in-err-number t c =
+pub lay-returns-in_err-number-in-Over : goal.lay-returns-in_err-number-in-Over
+lay-returns-in_err-number-in-Over t c =
     let f = formulas c.args.entries.now in
     let d = drafted c.args.draft.now in
-    subst (λ (s : Step). Went f (shape f s) d (drafted c.place-in-Over.new.draft) c.place-in-Over.new.memo c.from-residual.result) (sym c.in-Over.is)
-    (stopped f _ d _ _ _ c.from-residual.ensures (full_over f c.in-Over.mode _ d c.in-err-number.ensures))
+    subst (λ (s : Step). Went f (shape f s) d (drafted c.place-in-Over.new.draft) c.place-in-Over.new.memo c.from_residual.result) (sym c.in-Over.is)
+    (stopped f _ d _ _ _ c.from_residual.ensures (full_over f c.in-Over.mode _ d c.in_err-number-in-Over.ensures))
 
 pub lay-enter-requires-in-Over : goal.lay-enter-requires-in-Over
 lay-enter-requires-in-Over t c =
     let f = formulas c.args.entries.now in
     let u = c.place-in-Over.new.draft in
-    let w = went_within f _ (drafted c.args.draft.now) (drafted u) _ c.in-ok-number.number (draft_tidy c.args.draft.now) c.in-ok-number.ensures in
-    ap (under u.len) c.line.ensures ∙ mode_under c.in-Over.mode c.in-ok-number.number u.len (omega (arith, w.0, length_drafted u))
+    let w = went_within f _ (drafted c.args.draft.now) (drafted u) _ c.in_ok-number-in-Over.number (draft_tidy c.args.draft.now) c.in_ok-number-in-Over.ensures in
+    ap (under u.len) c.line.ensures ∙ mode_under c.in-Over.mode c.in_ok-number-in-Over.number u.len (omega (arith, w.0, length_drafted u))
 
-pub lay-returns-in-err-first : goal.lay-returns-in-err-first
-lay-returns-in-err-first t c =
+pub lay-returns-in_err-first-in-Twice : goal.lay-returns-in_err-first-in-Twice
+lay-returns-in_err-first-in-Twice t c =
     let f = formulas c.args.entries.now in
     let d = drafted c.args.draft.now in
     let p = c.pair-in-Twice.new in
-    subst (λ (s : Step). Went f (shape f s) d (drafted p.draft) p.memo c.from-residual-in-err-first.result) (sym c.in-Twice.is)
-    (stopped f _ d _ _ _ c.from-residual-in-err-first.ensures (full_left f c.in-Twice.outer _ _ d (draft_tidy c.args.draft.now) c.in-err-first.ensures))
+    subst (λ (s : Step). Went f (shape f s) d (drafted p.draft) p.memo c.from_residual-in_err-first-in-Twice.result) (sym c.in-Twice.is)
+    (stopped f _ d _ _ _ c.from_residual-in_err-first-in-Twice.ensures (full_left f c.in-Twice.outer _ _ d (draft_tidy c.args.draft.now) c.in_err-first-in-Twice.ensures))
 
-pub lay-returns-in-err-second : goal.lay-returns-in-err-second
-lay-returns-in-err-second t c =
+pub lay-returns-in_err-second-in-Twice : goal.lay-returns-in_err-second-in-Twice
+lay-returns-in_err-second-in-Twice t c =
     let f = formulas c.args.entries.now in
     let d = drafted c.args.draft.now in
     let p = c.pair-in-Twice-2.new in
-    subst (λ (s : Step). Went f (shape f s) d (drafted p.draft) p.memo c.from-residual-in-err-second.result) (sym c.in-Twice.is)
-    (stopped f _ d _ _ _ c.from-residual-in-err-second.ensures
-    (full_right f c.in-Twice.outer _ _ d _ _ c.in-ok-first.ensures.0 c.in-err-second.ensures))
+    subst (λ (s : Step). Went f (shape f s) d (drafted p.draft) p.memo c.from_residual-in_err-second-in-Twice.result) (sym c.in-Twice.is)
+    (stopped f _ d _ _ _ c.from_residual-in_err-second-in-Twice.ensures
+    (full_right f c.in-Twice.outer _ _ d _ _ c.in_ok-first-in-Twice.ensures.0 c.in_err-second-in-Twice.ensures))
 
 pub lay-enter-requires-in-Twice : goal.lay-enter-requires-in-Twice
 lay-enter-requires-in-Twice t c =
     let f = formulas c.args.entries.now in
     let u = c.pair-in-Twice.new.draft in
     let v = c.pair-in-Twice-2.new.draft in
-    let a : ℕ = c.in-ok-first.first in
-    let b : ℕ = c.in-ok-second.second in
-    let x = went_within f _ (drafted c.args.draft.now) (drafted u) _ a (draft_tidy c.args.draft.now) c.in-ok-first.ensures in
-    let y = went_within f _ (drafted u) (drafted v) _ b (draft_tidy u) c.in-ok-second.ensures in
+    let a : ℕ = c.in_ok-first-in-Twice.first in
+    let b : ℕ = c.in_ok-second-in-Twice.second in
+    let x = went_within f _ (drafted c.args.draft.now) (drafted u) _ a (draft_tidy c.args.draft.now) c.in_ok-first-in-Twice.ensures in
+    let y = went_within f _ (drafted u) (drafted v) _ b (draft_tidy u) c.in_ok-second-in-Twice.ensures in
     ap (under v.len) c.line-in-Twice.ensures
     ∙ joint_under c.in-Twice.outer a b v.len (omega (arith, x.0, y.1, length_drafted v)) (omega (arith, y.0, length_drafted v))
 
@@ -64,19 +64,19 @@ lay-returns-in-Leaf t c =
     (went_leaf f c.in-Leaf.line d (drafted c.enter.new.self) m c.enter.result
     (subst (λ (s : Step). inside (length c.args.entries.now) s ≡ true) c.in-Leaf.is c.requires.1.0) c.requires.1.1 c.enter.ensures)
 
-pub lay-returns-in-ok-number : goal.lay-returns-in-ok-number
-lay-returns-in-ok-number t c =
+pub lay-returns-in_ok-number-in-Over : goal.lay-returns-in_ok-number-in-Over
+lay-returns-in_ok-number-in-Over t c =
     let f = formulas c.args.entries.now in
     let d = drafted c.args.draft.now in
     let u = drafted c.place-in-Over.new.draft in
     let v = drafted c.enter-in-Over.new.self in
     let r = c.enter-in-Over.result in
     subst (λ (s : Step). Went f (shape f s) d v c.place-in-Over.new.memo r) (sym c.in-Over.is)
-    (went_over f c.in-Over.mode _ d u v _ c.in-ok-number.number r c.in-ok-number.ensures
+    (went_over f c.in-Over.mode _ d u v _ c.in_ok-number-in-Over.number r c.in_ok-number-in-Over.ensures
     (subst (λ (l : Line). Goes (enter l u) v r) c.line.ensures c.enter-in-Over.ensures))
 
-pub lay-returns-in-ok-second : goal.lay-returns-in-ok-second
-lay-returns-in-ok-second t c =
+pub lay-returns-in_ok-second-in-Twice : goal.lay-returns-in_ok-second-in-Twice
+lay-returns-in_ok-second-in-Twice t c =
     let f = formulas c.args.entries.now in
     let d = drafted c.args.draft.now in
     let u = drafted c.pair-in-Twice.new.draft in
@@ -84,32 +84,32 @@ lay-returns-in-ok-second t c =
     let w = drafted c.enter-in-Twice.new.self in
     let r = c.enter-in-Twice.result in
     subst (λ (s : Step). Went f (shape f s) d w c.pair-in-Twice-2.new.memo r) (sym c.in-Twice.is)
-    (went_join f c.in-Twice.outer _ _ d u v w _ _ c.in-ok-first.first c.in-ok-second.second r
-    c.in-ok-first.ensures c.in-ok-second.ensures
+    (went_join f c.in-Twice.outer _ _ d u v w _ _ c.in_ok-first-in-Twice.first c.in_ok-second-in-Twice.second r
+    c.in_ok-first-in-Twice.ensures c.in_ok-second-in-Twice.ensures
     (subst (λ (l : Line). Goes (enter l v) w r) c.line-in-Twice.ensures c.enter-in-Twice.ensures))
 
-pub pair-returns-in-err-first : goal.pair-returns-in-err-first
-pair-returns-in-err-first t c =
+pub pair-returns-in_err-first : goal.pair-returns-in_err-first
+pair-returns-in_err-first t c =
     let f = formulas c.args.entries.now in
     let d = drafted c.args.draft.now in
-    stopped f _ d _ _ _ c.from-residual.ensures (full_left f c.args.joint _ _ d (draft_tidy c.args.draft.now) c.in-err-first.ensures)
+    stopped f _ d _ _ _ c.from_residual.ensures (full_left f c.args.joint _ _ d (draft_tidy c.args.draft.now) c.in_err-first.ensures)
 
-pub pair-returns-in-err-second : goal.pair-returns-in-err-second
-pair-returns-in-err-second t c =
+pub pair-returns-in_err-second : goal.pair-returns-in_err-second
+pair-returns-in_err-second t c =
     let f = formulas c.args.entries.now in
     let d = drafted c.args.draft.now in
-    stopped f _ d _ _ _ c.from-residual-in-err-second.ensures
-    (full_right f c.args.joint _ _ d _ _ c.in-ok-first.ensures.0 c.in-err-second.ensures)
+    stopped f _ d _ _ _ c.from_residual-in_err-second.ensures
+    (full_right f c.args.joint _ _ d _ _ c.in_ok-first.ensures.0 c.in_err-second.ensures)
 
 pub pair-enter-requires : goal.pair-enter-requires
 pair-enter-requires t c =
     let f = formulas c.args.entries.now in
     let u = c.place.new.draft in
     let v = c.place-2.new.draft in
-    let a : ℕ = c.in-ok-first.first in
-    let b : ℕ = c.in-ok-second.second in
-    let x = went_within f _ (drafted c.args.draft.now) (drafted u) _ a (draft_tidy c.args.draft.now) c.in-ok-first.ensures in
-    let y = went_within f _ (drafted u) (drafted v) _ b (draft_tidy u) c.in-ok-second.ensures in
+    let a : ℕ = c.in_ok-first.first in
+    let b : ℕ = c.in_ok-second.second in
+    let x = went_within f _ (drafted c.args.draft.now) (drafted u) _ a (draft_tidy c.args.draft.now) c.in_ok-first.ensures in
+    let y = went_within f _ (drafted u) (drafted v) _ b (draft_tidy u) c.in_ok-second.ensures in
     ap (under v.len) c.line.ensures ∙ joint_under c.args.joint a b v.len (omega (arith, x.0, y.1, length_drafted v)) (omega (arith, y.0, length_drafted v))
 
 pub pair-returns : goal.pair-returns
@@ -119,8 +119,8 @@ pair-returns t c =
     let v = drafted c.place-2.new.draft in
     let w = drafted c.enter.new.self in
     let r = c.enter.result in
-    went_join f c.args.joint _ _ (drafted c.args.draft.now) u v w _ _ c.in-ok-first.first c.in-ok-second.second r
-    c.in-ok-first.ensures c.in-ok-second.ensures
+    went_join f c.args.joint _ _ (drafted c.args.draft.now) u v w _ _ c.in_ok-first.first c.in_ok-second.second r
+    c.in_ok-first.ensures c.in_ok-second.ensures
     (subst (λ (l : Line). Goes (enter l v) w r) c.line.ensures c.enter.ensures)
 
 pub place-returns-in-Some : goal.place-returns-in-Some
@@ -144,7 +144,7 @@ place-returns t c =
     let f = formulas xs in
     let d = drafted c.args.draft.now in
     let u = drafted c.lay.new.draft in
-    let k : ℕ = c.in-ok-number.number in
+    let k : ℕ = c.in_ok-number.number in
     let e = c.of.ensures.form f ∙ ap (nnf c.args.sign) (stands_told f (get_or xs i nothing) (f i) (c.requires.0.each i c.requires.1.0)) in
     went_learnt f c.args.sign i k d u c.lay.new.memo c.learn.new.self (draft_tidy c.args.draft.now) c.learn.ensures
-    (subst (λ (F : Normal). (place F d ≡ record { table = u; at = k }) × Remembers f c.lay.new.memo u) e c.in-ok-number.ensures)
+    (subst (λ (F : Normal). (place F d ≡ record { table = u; at = k }) × Remembers f c.lay.new.memo u) e c.in_ok-number.ensures)

@@ -3,7 +3,7 @@ use Rattle.tables.specs.Steps.{top}
 use Rattle.tables.proofs.normal.+lay_pair_place.Given as goal
 
 abbrev pub decreases-place : goal.decreases-place
-decreases-place l = 4 * l.initial + 3
+decreases-place l = 4 * l.entry + 3
 
 abbrev pub decreases-lay : goal.decreases-lay
 decreases-lay l = 4 * top l.step + 2

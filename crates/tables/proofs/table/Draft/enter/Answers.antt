@@ -8,36 +8,42 @@ use Rattle.tables.proofs.Lawful.{Equals, lawful}
 use Rattle.tables.proofs.table.Draft.enter.Goals as goal
 use Rattle.tables.proofs.table.Draft.enter.Goals.{then-number-self, else-number-self}
 
-pub returns-in-err-number : goal.returns-in-err-number
-returns-in-err-number c =
+pub returns-in_err-number : goal.returns-in_err-number
+returns-in_err-number c =
     let d = c.args.self.now in
-    let m = c.in-err-number.ensures in
+    let m = c.in_err-number.ensures in
     let h : d.len ≤ length d.lines = omega (arith, d.room, d.short) in
-    rw c.from-residual.ensures (omega (arith, d.room, m.1, enter_full Equals lawful d.lines d.len c.args.line h (λ k x a. m.0 k x (omega arith))))
+    rw c.from_residual.ensures (omega (arith, d.room, m.1, enter_full Equals lawful d.lines d.len c.args.line h (λ k x a. m.0 k x (omega arith))))
 
-pub invariant-of-self-then-number-self : goal.invariant-of-self-then-number-self
-invariant-of-self-then-number-self c =
+pub invariant_of-self-then-number-self : goal.invariant_of-self-then-number-self
+invariant_of-self-then-number-self c =
     let d = c.args.self.now in
     let l = c.args.line in
     let h : d.len ≤ length d.lines = omega (arith, d.room, d.short) in
-    elim c.in-ok-number.ensures [
+    elim c.in_ok-number.ensures [
       | inl z ↦ absurd (omega (arith, z.1, c.if-number-self.true))
       | inr z ↦
-          let P : Lines → ℕ → Type 0 = λ ys n. (length ys ≡ 121) × ((n ≤ 121) × (Earlier (take n ys) × (Apart (take n ys) × Unit {0}))) in
-          let here : P (set d.lines d.len l) (d.len + 1) =
-          (length-set d.lines d.len l ∙ d.room, (omega (arith, z.2, d.room), (next_earlier Equals lawful d.lines d.len l h z.2 d.earlier c.requires, (next_apart Equals lawful d.lines d.len l h z.2 d.apart z.0, tt)))) in
-          subst (λ (n : ℕ). P c.number.new.keys (n + 1)) (sym z.1) (subst (λ (ys : Lines). P ys (d.len + 1)) (sym z.3) here)
+          let ys : c.number.new.keys ≡ set d.lines d.len l = z.3 in
+          let n : c.in_ok-number.number + 1 ≡ d.len + 1 = omega (arith, z.1) in
+          let kept : (P : Lines → Type 0) → P (take (d.len + 1) (set d.lines d.len l)) → P (take (c.in_ok-number.number + 1) c.number.new.keys) =
+          λ P q. subst (λ (k : ℕ). P (take k c.number.new.keys)) (sym n) (subst (λ (zs : Lines). P (take (d.len + 1) zs)) (sym ys) q) in
+          record {
+            room = ap length ys ∙ (length-set d.lines d.len l ∙ d.room);
+            short = omega (arith, z.1, z.2, d.room);
+            earlier = kept Earlier (next_earlier Equals lawful d.lines d.len l h z.2 d.earlier c.requires);
+            apart = kept Apart (next_apart Equals lawful d.lines d.len l h z.2 d.apart z.0);
+          }
     ]
 
 pub returns : goal.returns
 returns c =
     let d = c.args.self.now in
     let l = c.args.line in
-    let n : ℕ = c.in-ok-number.number in
+    let n : ℕ = c.in_ok-number.number in
     let h : d.len ≤ length d.lines = omega (arith, d.room, d.short) in
     let to : (e : Draft) → c.if-number-self.self ≡ e → enter l (drafted d) ≡ record { table = drafted e; at = n } → enter l (drafted d) ≡ record { table = drafted c.if-number-self.self; at = n } =
     λ e q p. p ∙ ap (λ (x : Draft). record { table = drafted x; at = n }) (sym q) in
-    elim c.in-ok-number.ensures [
+    elim c.in_ok-number.ensures [
       | inl z ↦ elim c.if-number-self.branch [
         | then-number-self w ↦ absurd (omega (arith, z.1, w.if-number-self.true))
         | else-number-self w ↦ to _ w.self-is (enter_found Equals lawful d.lines d.len l h n z.0 z.1 ∙ ap (λ (ys : Lines). record { table = take d.len ys; at = n }) (sym z.2))

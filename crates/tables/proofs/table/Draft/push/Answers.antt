@@ -16,7 +16,7 @@ returns-in-Some c =
     let up : ltb d.len u.len ≡ true → length (drafted d) < length (drafted u) = λ h. omega (arith, ltb-true d.len u.len h, n, m) in
     let new = λ (h : ltb d.len u.len ≡ true). entered_next (drafted d) (drafted u) l c.in-Some.field-0 e (up h) in (
       (
-        (λ h. (omega (arith, up h, m, u.short), subst (λ (k : ℕ). under k l ≡ true) (sym n) (sym c.if-not-is-under.ensures), (new h).1)),
+        (λ h. (omega (arith, up h, m, u.short), subst (λ (k : ℕ). under k l ≡ true) (sym n) (sym c.if-not-is_under.ensures), (new h).1)),
         λ q. lt-ltb d.len u.len (omega (arith, next_longer (drafted d) (drafted u) l c.in-Some.field-0 e q, n, m)),
       ),
       λ h. (new h).0,
