@@ -1,7 +1,7 @@
 -- A choice matters only at the choice lines, so finitely many choices stand for all.
 use Rattle.std.proofs.Common.{◌≡◌, ℕ, zero, suc, ◌^◌, ◌<◌, Bool, true, false, cond, not, ◌&&◌, ◌||◌, eqb, ltb, leb, ◌↔◌, List, length, sym, refl, ap, ◌∙◌, inl, inr, arith}
 use native.Mathlib.Decide.{dec_lt}
-use Rattle.std.proofs.lemmas.Bool.{cases_Bool, both_ways, or_cases, or_left, or_right, and_parts, and_from, not_true, not_false, not_from_false, not_from_true, eqb-true, eq-eqb, leb-true, le-leb, ltb-true, lt-ltb}
+use Rattle.std.proofs.lemmas.Bool.{cases_Bool, both_ways, or_cases, or_left, or_right, and_parts, and_from, not-true, not-false, not_from_false, not_from_true, eqb-true, eq-eqb, leb-true, le-leb, ltb-true, lt-ltb}
 use Rattle.graph.specs.Sets.{has, set_of, every, any}
 use Rattle.tables.specs.declared.line.Line.{Line}
 use Rattle.tables.specs.Lines.{Lines, line, is_choice}
@@ -20,15 +20,15 @@ pub any_from : (n : ℕ) (f : ℕ → Bool) (k : ℕ) → k < n → f k ≡ true
 unfolding any
 any_from n f k l e =
     elim (cases_Bool (every n (λ k. not (f k)))) [
-      | inl h ↦ absurd (both_ways (f k) (not_true (f k) (every_at n (λ k. not (f k)) h k l)) e)
+      | inl h ↦ absurd (both_ways (f k) (not-true (f k) (every_at n (λ k. not (f k)) h k l)) e)
       | inr h ↦ not_from_false (every n (λ k. not (f k))) h
     ]
 
 pub any_at : (n : ℕ) (f : ℕ → Bool) → any n f ≡ true → (k : ℕ) × (k < n) × (f k ≡ true)
 unfolding any
 any_at n f h =
-    let x = every_fails n (λ k. not (f k)) (not_true (every n (λ k. not (f k))) h) in
-    (x.0, x.1, not_false (f x.0) x.2)
+    let x = every_fails n (λ k. not (f k)) (not-true (every n (λ k. not (f k))) h) in
+    (x.0, x.1, not-false (f x.0) x.2)
 
 -- two choices that agree at a choice line visit it alike
 visit_same : (l : Line) (b d : Bool) (k e : ℕ) (s : Unfolded) → (is_choice l ≡ true → b ≡ d) → visit l b k e s ≡ visit l d k e s
@@ -159,7 +159,7 @@ module _ (t : Lines) (l : List Ranked) where
             let alike = mask_alike t c in
             elim (or_cases (not (branch t (entry l a).node (by_mask t m))) (any (length l) (follows t l (entry l a) (by_mask t m)))
             (every_at (2 ^ choice_of t (length t)) (ok a) (every_at (length l) rows p.1 a g) m (mask_lt t c))) [
-              | inl x ↦ absurd (both_ways (branch t (entry l a).node (by_mask t m)) (not_true (branch t (entry l a).node (by_mask t m)) x)
+              | inl x ↦ absurd (both_ways (branch t (entry l a).node (by_mask t m)) (not-true (branch t (entry l a).node (by_mask t m)) x)
                   (sym (branch_same t c (by_mask t m) alike (entry l a).node) ∙ b))
               | inr x ↦
                   let y = any_at (length l) (follows t l (entry l a) (by_mask t m)) x in

@@ -1,6 +1,6 @@
 -- The truths that are computed place by place are the truths on the run.
 use Rattle.std.proofs.Common.{◌≡◌, ℕ, zero, suc, ◌+◌, ◌-◌, ◌<◌, ◌≤◌, min, Bool, true, false, not, ◌&&◌, ◌||◌, ltb, ◌⊎◌, ◌↔◌, length, sym, refl, ap, subst, ap₂, inl, inr, arith}
-use Rattle.std.proofs.lemmas.Bool.{cases_Bool, cases_lt, both_ways, or_cases, or_left, or_right, or_parts, and_parts, and_from, not_true, not_false, not_from_false, ltb-true, ltb-false, lt-ltb, le-ltb, cond-true, cond-false}
+use Rattle.std.proofs.lemmas.Bool.{cases_Bool, cases_lt, both_ways, or_cases, or_left, or_right, or_parts, and_parts, and_from, not-true, not-false, not_from_false, ltb-true, ltb-false, lt-ltb, le-ltb, cond-true, cond-false}
 use Rattle.graph.specs.Sets.{has, set_of, every}
 use Rattle.rules.specs.declared.syntax.Unary.TheVariants.{Always, Eventually}
 use Rattle.rules.specs.Formula.{Formula, unary}
@@ -107,9 +107,9 @@ module _ (r : Run) where
   eventually_agrees m f g i l =
       let t : ℕ → Bool = λ j. ltb j (min i a) || not (has m j) in (
         λ h.
-            let x = every_fails (a + p) t (not_true (every (a + p) t) h) in
+            let x = every_fails (a + p) t (not-true (every (a + p) t) h) in
             let y = or_parts (ltb x.0 (min i a)) (not (has m x.0)) x.2 in
-            eventually_from f i l x.0 (ltb-false x.0 (min i a) y.0) x.1 ((g x.0 x.1).0 (not_false (has m x.0) y.1)),
+            eventually_from f i l x.0 (ltb-false x.0 (min i a) y.0) x.1 ((g x.0 x.1).0 (not-false (has m x.0) y.1)),
         λ h.
             let b : i ≤ h.0 = h.1 in
             let x = eventually_at f i (suc h.0) h.0 (omega arith) (omega arith) h.2 in
@@ -119,7 +119,7 @@ module _ (r : Run) where
               | inr e ↦ e
               | inl e ↦ absurd (elim (or_cases (ltb k (min i a)) (not (has m k)) (every_at (a + p) t e k x.2)) [
                 | inl q ↦ let c : min i a ≤ k = x.1 in omega (arith, ltb-true k (min i a) q)
-                | inr q ↦ both_ways (has m k) (not_true (has m k) q) ((g k x.2).1 x.3)
+                | inr q ↦ both_ways (has m k) (not-true (has m k) q) ((g k x.2).1 x.3)
               ])
             ]),
       )
@@ -131,7 +131,7 @@ module _ (r : Run) where
   line_agrees (Line.Literal b true) k R F u h i s = set_of_iff (a + p) (λ i. has (at r i) b) i s (has (at r i) b ≡ true) (λ e. e, λ e. e)
   line_agrees (Line.Literal b false) k R F u h i s =
       set_of_iff (a + p) (λ i. not (has (at r i) b)) i s (has (at r i) b ≡ true → ⊥) (
-        λ e x. both_ways (has (at r i) b) (not_true (has (at r i) b) e) x,
+        λ e x. both_ways (has (at r i) b) (not-true (has (at r i) b) e) x,
         λ e. elim (cases_Bool (has (at r i) b)) [ inl q ↦ absurd (e q) | inr q ↦ not_from_false (has (at r i) b) q ],
       )
   line_agrees (Line.And x y) k R F u h i s =

@@ -1,6 +1,6 @@
 -- How many numbers below n pass a test; and sets that grow until they stop.
 use Rattle.std.proofs.Common.{◌≡◌, ℕ, zero, suc, ◌+◌, ◌<◌, ◌≤◌, Bool, true, false, not, ◌||◌, ◌⊎◌, sym, refl, ap, ◌∙◌, inl, inr, arith}
-use Rattle.std.proofs.lemmas.Bool.{cases_Bool, cases_eq, both_ways, or_cases, not_true, not_false, or_parts}
+use Rattle.std.proofs.lemmas.Bool.{cases_Bool, cases_eq, both_ways, or_cases, not-true, not-false, or_parts}
 use Rattle.graph.specs.Sets.{every}
 use Rattle.graph.proofs.Masks.{every_at, every_fails}
 
@@ -70,7 +70,7 @@ stops n S up = elim (go (suc n)) [ inl x ↦ x | inr x ↦ absurd (omega (arith,
             | inl e ↦ inl (record {
               at = i;
               still = λ k l h. elim (or_cases (not (S (suc i) k)) (S i k) (every_at n (test i) e k l)) [
-                | inl q ↦ absurd (both_ways (S (suc i) k) (not_true (S (suc i) k) q) h)
+                | inl q ↦ absurd (both_ways (S (suc i) k) (not-true (S (suc i) k) q) h)
                 | inr q ↦ q
               ];
               soon = λ h. omega (arith, x.1 h, count_most n (S i));
@@ -78,7 +78,7 @@ stops n S up = elim (go (suc n)) [ inl x ↦ x | inr x ↦ absurd (omega (arith,
             | inr e ↦
                 let y = every_fails n (test i) e in
                 let z = or_parts (not (S (suc i) y.0)) (S i y.0) y.2 in
-                let m = count_lt n (S i) (S (suc i)) (up i) y.0 y.1 z.1 (not_false (S (suc i) y.0) z.0) in
+                let m = count_lt n (S i) (S (suc i)) (up i) y.0 y.1 z.1 (not-false (S (suc i) y.0) z.0) in
                 inr (omega (arith, x.0, m), λ h. omega (arith, x.1 h, m))
           ]
         ]

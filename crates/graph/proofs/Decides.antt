@@ -2,7 +2,6 @@
 use Rattle.std.proofs.Common.{◌≡◌, ℕ, zero, suc, ◌^◌, ◌<◌, ◌≤◌, Bool, true, false, ◌&&◌, ◌||◌, ◌⊎◌, List, [], ◌∷◌, length, sym, refl, ap, ◌∙◌, subst, inl, inr, arith}
 use Rattle.std.proofs.lemmas.Bool.{cases_Bool, both_ways, or_cases, or_left, or_right, and_parts, and_from}
 use Rattle.graph.specs.Sets.{any}
-use Rattle.rules.specs.Runs.{at}
 use Rattle.tables.specs.Lines.{Lines}
 use Rattle.graph.specs.Numbers.{choice_of}
 use Rattle.graph.specs.Unfolding.{Choice}

@@ -1,6 +1,6 @@
 -- The computed branches, positions, successors and initial node are those of the relations.
 use Rattle.std.proofs.Common.{◌≡◌, ℕ, zero, suc, ◌+◌, ◌-◌, ◌^◌, ◌<◌, ◌≤◌, Bool, true, false, cond, not, ◌&&◌, ◌||◌, ◌⊎◌, ◌↔◌, length, sym, refl, ap, ◌∙◌, subst, inl, inr, pow-suc, arith}
-use Rattle.std.proofs.lemmas.Bool.{cases_eq, cases_Bool, both_ways, or_cases, or_left, or_right, and_parts, and_from, not_true, not_from_true, not_from_false, eqb-true, eq-eqb}
+use Rattle.std.proofs.lemmas.Bool.{cases_eq, cases_Bool, both_ways, or_cases, or_left, or_right, and_parts, and_from, not-true, not_from_true, not_from_false, eqb-true, eq-eqb}
 use Rattle.std.proofs.lemmas.Nat.{pow_below}
 use Rattle.tables.specs.declared.line.Line.{Line}
 use Rattle.tables.specs.Lines.{Lines, line}
@@ -107,7 +107,7 @@ module _ (t : Lines) (o : Ordered t) (n : Node) (c : Choice) where
       no_false = λ k a e. both_ways false refl (subst (λ (l : Line). sane l (position t n c) ≡ true) e (sane_here b k a));
       no_clash = λ s p q.
           let z : not (has (position t n c) s) ≡ true = subst (λ (l : Line). sane l (position t n c) ≡ true) q.2 (sane_here b q.0 q.1) in
-          both_ways (has (position t n c) s) (not_true (has (position t n c) s) z) ((position_asks s).1 p);
+          both_ways (has (position t n c) s) (not-true (has (position t n c) s) z) ((position_asks s).1 p);
     },
     λ b. every_from (length t) (λ k. not (has (unfolded t n c).now k) || sane (line t k) (position t n c)) (λ k l.
         let U = (unfolded t n c).now in
@@ -163,10 +163,10 @@ module _ (t : Lines) (o : Ordered t) (n : Node) (c : Choice) where
             let p = set_of_from (eventuality t (length t)) f e h in (
               p.0,
               elim (or_cases (not (has L e)) (has n.history e && not (is_omega t n)) p.1) [
-                | inl x ↦ inl (λ y. both_ways (has L e) (not_true (has L e) x) y)
+                | inl x ↦ inl (λ y. both_ways (has L e) (not-true (has L e) x) y)
                 | inr x ↦
                     let q = and_parts (has n.history e) (not (is_omega t n)) x in
-                    inr (q.0, λ y. both_ways (is_omega t n) (not_true (is_omega t n) q.1) ((omega_is t n).1 y))
+                    inr (q.0, λ y. both_ways (is_omega t n) (not-true (is_omega t n) q.1) ((omega_is t n).1 y))
               ],
             ),
         λ h. set_of_in (eventuality t (length t)) f e h.0 (elim h.1 [

@@ -1,6 +1,6 @@
 -- A way that passes ω-nodes again and again makes each line true that appears on it.
 use Rattle.std.proofs.Common.{◌≡◌, ℕ, zero, suc, ◌+◌, ◌-◌, ◌<◌, ◌≤◌, Bool, true, false, cond, not, ◌&&◌, ◌||◌, ◌⊎◌, length, sym, refl, ap, ◌∙◌, subst, inl, inr, add-zero, add-suc, arith}
-use Rattle.std.proofs.lemmas.Bool.{cases_eq, cases_Bool, both_ways, or_cases, and_from, and_parts, not_true, not_from_true, eqb-true}
+use Rattle.std.proofs.lemmas.Bool.{cases_eq, cases_Bool, both_ways, or_cases, and_from, and_parts, not-true, not_from_true, eqb-true}
 use Rattle.graph.specs.Sets.{has, add, set_of}
 use Rattle.rules.specs.Formula.{Formula}
 use Rattle.rules.specs.Runs.{Holds}
@@ -240,7 +240,7 @@ module _ (t : Lines) (o : Ordered t) (N : ℕ → Node) (C : ℕ → Choice) (w 
   line_true (Line.Literal s true) k e u l ih i h =
       subst (λ (x : ℕ). has x s ≡ true) (sym (asked i)) (signals_in t (unfolded t (N i) (C i)).now (length t) k s l h e)
   line_true (Line.Literal s false) k e u l ih i h =
-      λ p. both_ways (has (w i) s) (not_true (has (w i) s) (subst (λ (b : Line). sane b (w i) ≡ true) e (sane_at i k l h))) p
+      λ p. both_ways (has (w i) s) (not-true (has (w i) s) (subst (λ (b : Line). sane b (w i) ≡ true) e (sane_at i k l h))) p
   line_true (Line.And x y) k e u l ih i h =
       let b = kind (Line.And x y) k e l i h in
       (ih x u.0 (omega arith) i b.0, ih y u.1 (omega arith) i b.1)

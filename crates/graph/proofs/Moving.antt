@@ -1,6 +1,6 @@
 -- The computed branches are the steps, and a list that passes the test is the graph.
 use Rattle.std.proofs.Common.{◌≡◌, ℕ, zero, suc, ◌^◌, ◌<◌, Bool, true, false, not, ◌&&◌, ◌||◌, eqb, ltb, ◌⊎◌, ◌↔◌, List, [], ◌∷◌, length, sym, refl, ap, ◌∙◌, subst, inl, inr, arith}
-use Rattle.std.proofs.lemmas.Bool.{cases_eq, cases_order, both_ways, or_cases, and_parts, not_true, eqb-true, ltb-true}
+use Rattle.std.proofs.lemmas.Bool.{cases_eq, cases_order, both_ways, or_cases, and_parts, not-true, eqb-true, ltb-true}
 use Rattle.tables.specs.Lines.{Lines}
 use Rattle.graph.specs.declared.node.Node.{Node}
 use Rattle.graph.specs.Sets.{every, any}
@@ -163,7 +163,7 @@ module _ (t : Lines) (o : Ordered t) (l : List Node) (z : lists t l ≡ true) wh
   apart a b g h e =
       let q = (and_parts (stays_in l (moves t (node_of l b))) (once_test b) (each b h).1).1 in
       both_ways (same_node (node_of l a) (node_of l b))
-      (not_true (same_node (node_of l a) (node_of l b)) (every_at b (λ x. not (same_node (node_of l x) (node_of l b))) q a g))
+      (not-true (same_node (node_of l a) (node_of l b)) (every_at b (λ x. not (same_node (node_of l x) (node_of l b))) q a g))
       (same_node_refl (node_of l a) (node_of l b) e)
 
   pub is_distinct : Distinct l

@@ -1,5 +1,5 @@
 -- The claims, put together.
-use Rattle.std.proofs.Common.{◌≡◌, ℕ, ◌<◌, ◌≤◌, Bool, true, false, not, ◌&&◌, ◌↔◌, List, length, sym, refl, ap, ◌∙◌, subst, inl, inr, arith}
+use Rattle.std.proofs.Common.{◌≡◌, ℕ, ◌<◌, ◌≤◌, true, not, ◌↔◌, List, length, sym, refl, ap, ◌∙◌, subst, inl, inr, arith}
 use native.Mathlib.Decide.{dec_lt}
 use Rattle.rules.specs.Runs.{Run}
 use Rattle.tables.specs.Lines.{Lines}
@@ -17,7 +17,7 @@ use Rattle.graph.proofs.Moving as moving
 use Rattle.graph.proofs.Certified.{certified_exact, same_node_true, same_node_refl}
 use Rattle.graph.proofs.Masks.{every_at, every_from}
 use Rattle.graph.specs.Sets.{every}
-use Rattle.std.proofs.lemmas.Bool.{cases_Bool, cases_order, both_ways, not_true, not_from_false, and_parts, and_from}
+use Rattle.std.proofs.lemmas.Bool.{cases_Bool, cases_order, both_ways, not-true, not_from_false, and_parts, and_from}
 use Rattle.graph.proofs.Decides.{loop_short, length_ranked, ranked_node}
 use Rattle.graph.proofs.Lassos.{length_positions}
 use Rattle.graph.proofs.Sizes.{pigeons}
@@ -123,7 +123,7 @@ unfolding once
 once_apart l z a b g h e =
     let q = every_at (length l) (λ a. every a (λ b. not (same_node (entry l b).node (entry l a).node))) z b h in
     both_ways (same_node (entry l a).node (entry l b).node)
-    (not_true (same_node (entry l a).node (entry l b).node) (every_at b (λ x. not (same_node (entry l x).node (entry l b).node)) q a g))
+    (not-true (same_node (entry l a).node (entry l b).node) (every_at b (λ x. not (same_node (entry l x).node (entry l b).node)) q a g))
     (same_node_refl (entry l a).node (entry l b).node e)
 
 once_from : (l : List Ranked) → Once l → once l ≡ true

@@ -3,7 +3,7 @@ use Rattle.std.specs.Prelude.{◌≡◌, ℕ, zero, suc, ◌+◌, ◌*◌, ◌/�
 use Rattle.std.proofs.Common.{sym, ap, ◌∙◌, subst, append_assoc, inl, inr, arith}
 use Rattle.std.proofs.Math.Arith.{digits_div, digits_mod}
 use Rattle.std.proofs.lemmas.Nat.{div-add-mod', div_below}
-use Rattle.std.proofs.lemmas.Bool.{ltb-true, lt-ltb, and_parts, and_from, eqb-true, eqb-false, not_true, not_from_false}
+use Rattle.std.proofs.lemmas.Bool.{ltb-true, lt-ltb, and_parts, and_from, eqb-true, eqb-false, not-true, not_from_false}
 use Rattle.rules.specs.Runs.{on}
 use Rattle.graph.specs.declared.node.Ranked.{Ranked}
 use Rattle.graph.specs.Sets.{has}
@@ -39,7 +39,7 @@ taken_only k true bs v r pos h =
     let w : c.0 ≡ v = same_value c.0 v c.1.0 r d.1 in
     let s : c.1.0 ≡ r = same_rest c.0 v c.1.0 r d.1 in
     let o = (number_layout k).only bs c.0 c.1.0 c.1.1 in
-    let z : nat_eq v 0 ≡ false = subst (λ (x : ℕ). (x == 0) ≡ false) w (not_true (c.0 == 0) d.0) in (
+    let z : nat_eq v 0 ≡ false = subst (λ (x : ℕ). (x == 0) ≡ false) w (not-true (c.0 == 0) d.0) in (
       subst (λ (x : ℕ). x < 256 ^ k) w o.0,
       sym (not_from_false (v == 0) z),
       o.1 ∙ ap (λ (z : List ℕ). big k c.0 ++ z) s ∙ ap (λ (x : ℕ). big k x ++ r) w ∙ ap (λ (t : Bool). cond t [] (big k v) ++ r) (sym z),

@@ -1,6 +1,6 @@
 -- A line is true just where its row, the row after and the position tell so.
 use Rattle.std.proofs.Common.{◌≡◌, ℕ, suc, ◌<◌, ◌≤◌, Bool, true, false, not, ◌⊎◌, ◌↔◌, refl, subst, inl, inr, arith}
-use Rattle.std.proofs.lemmas.Bool.{cases_Bool, cases_eq, both_ways, false≢true, or_cases, or_left, or_right, and_parts, and_from, not_true, not_from_false}
+use Rattle.std.proofs.lemmas.Bool.{cases_Bool, cases_eq, both_ways, false≢true, or_cases, or_left, or_right, and_parts, and_from, not-true, not_from_false}
 use Rattle.rules.specs.declared.syntax.Unary.TheVariants.{Always, Eventually}
 use Rattle.rules.specs.Formula.{Formula, unary}
 use Rattle.rules.specs.Runs.{Holds}
@@ -37,7 +37,7 @@ eventually_iff f w i = (
 
 not_iff : (b : Bool) → (not b ≡ true) ↔ (b ≡ true → ⊥)
 not_iff b = (
-  λ e x. both_ways b (not_true b e) x,
+  λ e x. both_ways b (not-true b e) x,
   λ h. elim (cases_Bool b) [ inl e ↦ absurd (h e) | inr e ↦ not_from_false b e ],
 )
 
