@@ -1,9 +1,9 @@
 -- A run's signals are the position's, and it lives exactly if the choice is a branch.
-use Rattle.std.proofs.Common.{◌≡◌, ℕ, zero, suc, ◌-◌, ◌<◌, Bool, true, false, cond, not, ◌&&◌, ◌||◌, length, sym, refl, ap, ◌∙◌, subst, inl, inr, arith}
+use Rattle.std.proofs.Common.{◌≡◌, ℕ, zero, suc, ◌<◌, Bool, true, false, cond, not, ◌&&◌, ◌||◌, length, sym, refl, ap, ◌∙◌, subst, inl, inr, arith}
 use Rattle.std.proofs.lemmas.Bool.{cases_Bool, cases_eq, both_ways, and_parts, and_from}
 use Rattle.tables.specs.declared.line.Line.{Line}
 use Rattle.graph.specs.declared.node.Node.{Node}
-use Rattle.graph.specs.Sets.{has, every}
+use Rattle.graph.specs.Sets.{has}
 use Rattle.tables.specs.Lines.{Lines, line}
 use Rattle.graph.specs.Numbers.{eventuality}
 use Rattle.graph.proofs.Ordered.{Ordered}

@@ -1,5 +1,5 @@
 -- The branches of a walk are the steps of the graph.
-use Rattle.std.proofs.Common.{◌≡◌, ℕ, true, List, sym, ◌∙◌, subst}
+use Rattle.std.proofs.Common.{◌≡◌, ℕ, true, List}
 use Rattle.tables.specs.Lines.{Lines}
 use Rattle.graph.specs.declared.node.Node.{Node}
 use Rattle.graph.specs.Graphs.{Step}

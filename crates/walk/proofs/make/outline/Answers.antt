@@ -28,11 +28,11 @@ loop-k-preserved c =
       length-set c.loop-k.lines k v ∙ i.0,
       length-set c.loop-k.numbers k c.loop-k.count ∙ i.1,
       take_turn c.loop-k.lines g k a l i.2,
-      below_more (λ j. narrow (line g j) ≡ true) k i.3 (sym c.if-not-is-narrow.ensures),
+      below_more (λ j. narrow (line g j) ≡ true) k i.3 (sym c.if-not-is_narrow.ensures),
       numbered_turn g c.loop-k.numbers k c.loop-k.count b i.5 i.4,
       omega (arith, number_add is_eventuality g k, i.5, e),
-      set_turn (stays_at g) k c.loop-k.staying _ _ i.6 c.stays.ensures c.with-if-staying.ensures,
-      set_turn (and_at g) k c.loop-k.ands _ _ i.7 c.is-and.ensures c.with-if-ands.ensures,
+      set_turn (stays_at g) k c.loop-k.staying _ _ i.6 c.stays.ensures c.with_if-staying.ensures,
+      set_turn (and_at g) k c.loop-k.ands _ _ i.7 c.is_and.ensures c.with_if-ands.ensures,
       omega (arith, i.8, e, event_most v),
     )
 
@@ -42,43 +42,27 @@ below-all-requires c =
     let z : c.loop-k.k ≡ length g = omega arith in
     omega (arith, c.loop-k.invariant.5, ap (eventuality g) z, ev_le g (length g), c.requires.few)
 
-pub invariant-of-result : goal.invariant-of-result
+pub invariant_of-result : goal.invariant_of-result
 unfolding everything
-invariant-of-result c =
+invariant_of-result c =
     let g = c.args.given.now in
     let i = c.loop-k.invariant in
     let z : c.loop-k.k ≡ length g = omega arith in
     let w = whole_take c.loop-k.lines g c.loop-k.k z i.2 in
     let n : Numbered g (length g) c.loop-k.numbers = subst (λ (x : ℕ). Numbered g x c.loop-k.numbers) z i.4 in
     let f : Narrow g = subst (λ (x : ℕ). (j : ℕ) → j < x → narrow (line g j) ≡ true) z i.3 in
-    let v : c.below-all.result ≡ set_of (eventuality g (length g)) (λ e. true) = c.below-all.ensures ∙ ap (λ (x : ℕ). set_of x (λ e. true)) (i.5 ∙ ap (eventuality g) z) in (
-      omega (arith, c.requires.some),
-      (
-        c.requires.short,
-        (
-          fit_array c.loop-k.lines g w c.requires.earlier f,
-          (
-            subst (λ (ls : List Line). choice_of ls (length g) ≤ 16) (sym w) c.requires.few,
-            (
-              subst (λ (ls : List Line). Numbered ls (length g) c.loop-k.numbers) (sym w) n,
-              (
-                ap length w,
-                (
-                  v ∙ ap (λ (ls : List Line). set_of (eventuality ls (length ls)) (λ e. true)) (sym w),
-                  (
-                    i.6 ∙ ap (λ (x : ℕ). set_of x (stays_at g)) z ∙ ap (λ (ls : List Line). set_of (length g) (stays_at ls)) (sym w),
-                    (
-                      i.7 ∙ ap (λ (x : ℕ). set_of x (and_at g)) z ∙ ap (λ (ls : List Line). set_of (length g) (and_at ls)) (sym w),
-                      tt,
-                    ),
-                  ),
-                ),
-              ),
-            ),
-          ),
-        ),
-      ),
-    )
+    let v : c.below-all.result ≡ set_of (eventuality g (length g)) (λ e. true) = c.below-all.ensures ∙ ap (λ (x : ℕ). set_of x (λ e. true)) (i.5 ∙ ap (eventuality g) z) in
+    record {
+      low = omega (arith, c.requires.some);
+      high = c.requires.short;
+      fit = fit_array c.loop-k.lines g w c.requires.earlier f;
+      few = subst (λ (ls : List Line). choice_of ls (length g) ≤ 16) (sym w) c.requires.few;
+      numbered = subst (λ (ls : List Line). Numbered ls (length g) c.loop-k.numbers) (sym w) n;
+      whole = ap length w;
+      every = v ∙ ap (λ (ls : List Line). set_of (eventuality ls (length ls)) (λ e. true)) (sym w);
+      staying = i.6 ∙ ap (λ (x : ℕ). set_of x (stays_at g)) z ∙ ap (λ (ls : List Line). set_of (length g) (stays_at ls)) (sym w);
+      joining = i.7 ∙ ap (λ (x : ℕ). set_of x (and_at g)) z ∙ ap (λ (ls : List Line). set_of (length g) (and_at ls)) (sym w);
+    }
 
 pub returns : goal.returns
 returns c =

@@ -44,8 +44,8 @@ bounds-self-self c =
     let k = c.loop-k.k in
     omega (arith, c.loop-k.invariant.1, two_choice t k c.in-Two.f c.in-Two.g c.loop-k.found c.loop-k-test.true c.in-Two.ensures)
 
-pub invariant-of-self : goal.invariant-of-self
-invariant-of-self c =
+pub invariant_of-self : goal.invariant_of-self
+invariant_of-self c =
     let s = c.loop-k.self in
     let t = outlined s.outline.now in
     let k = c.loop-k.k in
@@ -54,7 +54,10 @@ invariant-of-self c =
     let z : length s.stack ≡ 16 = search rules in
     let d : s.depth + 1 ≤ 16 = omega (arith, i.1, e) in
     let p : Pass = record { line = k - 1; found = c.in-Two.g } in
-    (d, (room_push t s.outline.now.len s.stack s.depth p (omega arith) s.room (omega (arith, i.0)) (omega (arith, i.1, e)), tt))
+    record {
+      high = d;
+      room = room_push t s.outline.now.len s.stack s.depth p (omega arith) s.room (omega (arith, i.0)) (omega (arith, i.1, e));
+    }
 
 pub loop-k-preserved-in-Two : goal.loop-k-preserved-in-Two
 loop-k-preserved-in-Two c =

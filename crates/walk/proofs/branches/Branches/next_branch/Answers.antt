@@ -1,10 +1,10 @@
-use Rattle.std.proofs.Common.{◌≡◌, ◌-◌, [], ◌∷◌, map, sym, ap, ◌∙◌, ap₂, arith}
+use Rattle.std.proofs.Common.{◌≡◌, [], ◌∷◌, map, sym, ap, ◌∙◌, ap₂, arith}
 use Rattle.graph.specs.declared.node.Node.{Node}
 use Rattle.walk.specs.declared.outline.Outline.{Outline}
 use Rattle.walk.specs.declared.found.Branch.{Branch}
 use Rattle.walk.specs.Outlines.{outlined}
 use Rattle.walk.specs.Walk.{rest, finish}
-use Rattle.walk.specs.Remain.{ends, work, remaining}
+use Rattle.walk.specs.Remain.{ends, remaining}
 use Rattle.walk.proofs.Walks.{rest_none, rest_pop, load_pop}
 use Rattle.walk.proofs.branches.Branches.next_branch.Goals as goal
 
@@ -23,13 +23,13 @@ returns-in-Some c =
 pub loop-self-smaller : goal.loop-self-smaller
 loop-self-smaller c =
     let s = c.loop-self.self in
-    omega (arith, load_pop s.stack s.depth c.loop-self-test.true, c.in-default.ensures.work)
+    omega (arith, load_pop s.stack s.depth c.loop-self-test.true, c.in_default.ensures.work)
 
 pub loop-self-preserved : goal.loop-self-preserved
 loop-self-preserved c =
     let s = c.loop-self.self in
     let i = c.loop-self.invariant in
-    let a = c.in-default.ensures in
+    let a = c.in_default.ensures in
     (a.outline ∙ i.0, a.node ∙ i.1, a.list ∙ sym (rest_pop (outlined s.outline.now) s.stack s.depth c.loop-self-test.true) ∙ i.2)
 
 pub returns : goal.returns

@@ -1,4 +1,4 @@
-use Rattle.std.proofs.Common.{◌≡◌, ℕ, suc, ◌+◌, ◌-◌, ◌≤◌, cond, sym, ap, ◌∙◌, arith}
+use Rattle.std.proofs.Common.{◌≡◌, suc, ◌+◌, ◌-◌, ◌≤◌, cond, sym, ap, ◌∙◌, arith}
 use Rattle.tables.specs.declared.line.Line.{Line}
 use Rattle.tables.specs.Lines.{line, is_eventuality, total}
 use Rattle.graph.specs.Numbers.{eventuality, choice_of}
@@ -18,8 +18,8 @@ all c =
     let last : eventuality t (suc k) ≡ total is_eventuality t = ap (eventuality t) (m ∙ sym s.whole) in
     omega arith
 
-pub overflow-add-result : goal.overflow-add-result
-overflow-add-result c =
+pub overflow_add-result : goal.overflow_add-result
+overflow_add-result c =
     let s = c.args.self.now in
     let t = outlined s in
     let e : c.number.result + c.evented.result ≡ total is_eventuality t = all c in

@@ -3,16 +3,16 @@ use Rattle.graph.specs.Pass.{is_omega}
 use Rattle.walk.specs.Outlines.{outlined}
 use Rattle.walk.proofs.Puts.{history_is}
 use Rattle.walk.proofs.outline.Outline.history.Goals as goal
-use Rattle.walk.proofs.outline.Outline.history.Goals.{then-is-omega, else-is-omega}
+use Rattle.walk.proofs.outline.Outline.history.Goals.{then-is_omega, else-is_omega}
 
 pub returns : goal.returns
 returns c =
     let s = c.args.self.now in
     let n = c.args.node in
-    let old : c.if-is-omega.old ≡ cond (is_omega (outlined s) n) 0 n.history =
-    elim c.if-is-omega.branch [
-      | then-is-omega w ↦ w.old-is ∙ ap (λ (b : Bool). cond b 0 n.history) w.if-is-omega.ensures.is
-      | else-is-omega w ↦ w.old-is ∙ ap (λ (b : Bool). cond b 0 n.history) w.if-is-omega.ensures.is
+    let old : c.if-is_omega.old ≡ cond (is_omega (outlined s) n) 0 n.history =
+    elim c.if-is_omega.branch [
+      | then-is_omega w ↦ w.old-is ∙ ap (λ (b : Bool). cond b 0 n.history) w.if-is_omega.ensures.is
+      | else-is_omega w ↦ w.old-is ∙ ap (λ (b : Bool). cond b 0 n.history) w.if-is_omega.ensures.is
     ] in
-    history_is (outlined s) n s.all c.args.later c.if-is-omega.old c.without16.result c.without16-2.result
+    history_is (outlined s) n s.all c.args.later c.if-is_omega.old c.without16.result c.without16-2.result
     s.every old c.without16.ensures c.without16-2.ensures

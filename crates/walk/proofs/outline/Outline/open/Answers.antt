@@ -11,7 +11,7 @@ loop-k-init c = sym (set_none _)
 
 pub loop-k-preserved : goal.loop-k-preserved
 loop-k-preserved c =
-    set_turn (opens (outlined c.args.self.now) c.args.node) c.loop-k.k c.loop-k.seen _ _ c.loop-k.invariant c.opens.ensures c.with-if-seen.ensures
+    set_turn (opens (outlined c.args.self.now) c.args.node) c.loop-k.k c.loop-k.seen _ _ c.loop-k.invariant c.opens.ensures c.with_if-seen.ensures
 
 pub returns : goal.returns
 unfolding opened

@@ -14,4 +14,4 @@ pub returns-else-common-eq0 : goal.returns-else-common-eq0
 returns-else-common-eq0 c =
     let s = c.args.self.now in
     put_full (outlined s) c.args.lines s.len s.stays c.common-else-common-eq0.result s.whole s.staying
-    (λ k. c.common-else-common-eq0.ensures k ∙ ap (λ (x : ℕ). has x k && has s.stays k) c.spread-all.ensures)
+    (λ k. c.common-else-common-eq0.ensures k ∙ ap (λ (x : ℕ). has x k && has s.stays k) c.spread_all.ensures)
