@@ -1,5 +1,5 @@
 -- One writing after another.
-use Rattle.std.specs.Prelude.{◌≡◌, ℕ, zero, suc, ◌+◌, ◌-◌, ◌/◌, ◌%◌, ◌^◌, ◌<◌, ◌≤◌, List, [], ◌∷◌, ◌++◌, length, take, drop, slice_set, refl}
+use Rattle.std.specs.Prelude.{◌≡◌, ℕ, zero, suc, ◌+◌, ◌/◌, ◌%◌, ◌^◌, ◌<◌, ◌≤◌, List, [], ◌∷◌, ◌++◌, length, take, drop, slice_set, refl}
 use Rattle.std.proofs.Common.{sym, ap, ◌∙◌, subst, append_assoc, arith, length-append, length-drop}
 use Rattle.std.proofs.lemmas.List.{take-append-drop, take_at, drop_at, drop-drop, set_split, length-take-le}
 use Rattle.records.specs.declared.writer.Writer.{Writer}
@@ -61,6 +61,10 @@ pub length_big : (k n : ℕ) → length (big k n) ≡ k
 unfolding big
 length_big zero n = refl
 length_big (suc k) n = ap suc (length_big k (n % 256 ^ k))
+
+-- a mask has two bytes
+pub length_word : (n : ℕ) → length (big 2 n) ≤ 2
+length_word n = omega (arith, length_big 2 n)
 
 -- the room that is left
 pub room_left : {a b : Writer} {ys : List ℕ} (m n : ℕ) → Wrote a b ys → length ys ≤ m → Room a (m + n) → Room b n

@@ -4,8 +4,7 @@ ghost use Rattle.records.specs.declared.limits.Limits.{Limits};
 ghost use Rattle.records.specs.Appending.{Room, Wrote};
 ghost use Rattle.records.specs.Claims.{big, node_bytes};
 ghost use Rattle.records.specs.Parsing.{Got, given, mask, node};
-ghost use Rattle.std.proofs.Common.{arith};
-ghost use Rattle.records.specs.Puts.{length_big};
+ghost use Rattle.records.specs.Puts.{length_word};
 ghost use Rattle.records.specs.NodeBytes.{length_node};
 
 use crate::limits::Limits;
@@ -42,7 +41,7 @@ impl Item for u16 {
 
     ghost most = { 2 };
 
-    ghost short = { λ m. omega (arith, length_big 2 m) };
+    ghost short = { length_word };
 
     fn read(reader: &mut Reader, limits: Limits) -> Option<u16> {
         let mask = reader.word()?;
@@ -66,7 +65,7 @@ impl Item for Ranked {
 
     ghost most = { 23 };
 
-    ghost short = { λ n. length_node n };
+    ghost short = { length_node };
 
     fn read(reader: &mut Reader, limits: Limits) -> Option<Ranked> {
         reader.node(limits)

@@ -5,8 +5,8 @@ use Rattle.records.proofs.claim.Claim.write.Goals as goal
 
 pub returns : goal.returns
 returns c = (
-  c.if-buffer-lt-RECORD-ROOM.false,
-  c.is-countable.ensures.0 c.if-not-is-countable.false,
+  c.if-buffer-lt-RECORD_ROOM.false,
+  c.is_countable.ensures.0 c.if-not-is_countable.false,
   omega (arith, c.put.ensures.at),
   search rules ∙ put_front c.args.buffer.now (laid (claim_of c.args.self)),
 )

@@ -4,6 +4,6 @@ use Rattle.records.proofs.reader.Reader.list.Goals as goal
 
 pub returns : goal.returns
 returns g c = record {
-  few = count_most _ _ _ _ c.in-ok-count.ensures;
-  read = counted_front (g.T-as-Item.parsed c.args.limits) _ _ _ _ _ _ c.in-ok-count.ensures c.in-ok-fill.ensures c.fill.auto.table;
+  few = count_most _ _ _ _ c.in_ok-count.ensures;
+  read = counted_front (g.T.Item.parsed c.args.limits) _ _ _ _ _ _ c.in_ok-count.ensures c.in_ok-fill.ensures c.fill.auto.table;
 }

@@ -10,16 +10,16 @@ loop-item-init g c = wrote_none _
 
 pub write-requires : goal.write-requires
 write-requires g c =
-    room_item g.T-as-Item.written g.T-as-Item.most g.met.T.Item.short c.args.self.now c.loop-item.self c.args.items.now c.loop-item.item-index
+    room_item g.T.Item.written g.T.Item.most g.met.T.Item.short c.args.self.now c.loop-item.self c.args.items.now c.loop-item.item-index
     c.loop-item-test.true c.requires c.loop-item.invariant
 
 pub loop-item-preserved : goal.loop-item-preserved
 loop-item-preserved g c =
     let room =
-    room_front g.T-as-Item.written g.T-as-Item.most g.met.T.Item.short c.args.self.now c.args.items.now c.loop-item.item-index
+    room_front g.T.Item.written g.T.Item.most g.met.T.Item.short c.args.self.now c.args.items.now c.loop-item.item-index
     c.loop-item-test.true c.requires in
-    wrote_same _ _ _ _ (each_more g.T-as-Item.written c.args.items.now c.loop-item.item-index _ c.loop-item-test.true c.item-item.is)
+    wrote_same _ _ _ _ (each_more g.T.Item.written c.args.items.now c.loop-item.item-index _ c.loop-item-test.true c.item-item.is)
     (wrote_more _ _ _ _ _ room c.loop-item.invariant c.write.ensures)
 
 pub returns : goal.returns
-returns g c = wrote_same _ _ _ _ (each_whole g.T-as-Item.written c.args.items.now c.loop-item.item-index (omega arith)) c.loop-item.invariant
+returns g c = wrote_same _ _ _ _ (each_whole g.T.Item.written c.args.items.now c.loop-item.item-index (omega arith)) c.loop-item.invariant
