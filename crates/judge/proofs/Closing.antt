@@ -1,23 +1,24 @@
 -- The branches of a listed node, taken one by one.
-use Rattle.std.proofs.Common.{◌≡◌, Bool, ◌⊎◌, List, [], ◌∷◌, Decides, sym, refl, ap, ◌∙◌, subst, inl, inr}
+use Rattle.std.proofs.Common.{◌≡◌, Bool, ◌⊎◌, List, [], ◌∷◌, Decides, sym, refl, ◌∙◌, subst, inl, inr, arith}
 use Rattle.tables.specs.Lines.{Lines}
 use Rattle.graph.specs.declared.node.Node.{Node}
-use Rattle.graph.specs.declared.node.Ranked.{Ranked}
-use Rattle.graph.specs.Graphs.{Step, entry, Sinks, Once}
+use Rattle.graph.specs.declared.node.Ranked.{Ranked as Listed}
+use Rattle.graph.specs.Graphs.{Sinks}
 use Rattle.graph.specs.Moves.{Among}
 use Rattle.graph.specs.Unfolding.{Omega}
 use Rattle.graph.proofs.Laws.{one_successor}
 use Rattle.graph.proofs.Ordered.{Ordered}
 use Rattle.walk.specs.declared.found.Branch.{Branch}
-use Rattle.walk.specs.Exact.{Exact, BranchOf}
-use Rattle.judge.specs.Refutations.{Falls, Closed}
+use Rattle.walk.specs.Exact.{Exact}
+use Rattle.judge.specs.Refutations.{ranked_of, ranked_list, Falls, Closed}
+use Rattle.judge.proofs.Listing.{length_ranked, node_ranked, rank_ranked}
 
 -- of the branches, those that are not left lead to nodes whose ranks sink
-pub record Left (l : List Ranked) (r : Ranked) (strict : Bool) (all left : List Branch) : Type 0 where
+pub record Left (l : List Listed) (r : Listed) (strict : Bool) (all left : List Branch) : Type 0 where
   pub within : (b : Branch) → Among b left → Among b all
   pub done : (b : Branch) → Among b all → Among b left ⊎ Falls l r.rank strict b.successor
 
-module _ (l : List Ranked) (r : Ranked) (strict : Bool) (all : List Branch) where
+module _ (l : List Listed) (r : Listed) (strict : Bool) (all : List Branch) where
   pub left_all : (left : List Branch) → left ≡ all → Left l r strict all left
   left_all left e = record { within = λ b a. subst (Among b) e a; done = λ b a. inl (subst (Among b) (sym e) a) }
 
@@ -37,18 +38,23 @@ module _ (l : List Ranked) (r : Ranked) (strict : Bool) (all : List Branch) wher
 
   module _ (t : Lines) (o : Ordered t) (means : Decides strict (Omega t r.node)) (exact : Exact t r.node all) where
     -- a rank that sinks at a branch is one that sinks in the graph
-    sinks : (m : Node) → Falls l r.rank strict m → Sinks t l r m
+    sinks : (m : Node) → Falls l r.rank strict m → Sinks t (ranked_list l) (ranked_of r) m
     sinks m f =
         record {
           place = f.0;
-          within = f.1.0;
-          same = f.1.1;
-          sinks = f.2;
-          falls = λ w. f.3 (means.1 w);
+          within = omega (arith, length_ranked l, f.1.0);
+          same = node_ranked l f.0 ∙ f.1.1;
+          sinks = omega (arith, rank_ranked l f.0, f.2);
+          falls = λ w. omega (arith, rank_ranked l f.0, f.3 (means.1 w));
         }
 
-    falls : (m : Node) → Sinks t l r m → Falls l r.rank strict m
-    falls m s = (s.place, (s.within, s.same), s.sinks, λ e. s.falls (means.0 e))
+    falls : (m : Node) → Sinks t (ranked_list l) (ranked_of r) m → Falls l r.rank strict m
+    falls m s = (
+      s.place,
+      (omega (arith, length_ranked l, s.within), sym (node_ranked l s.place) ∙ s.same),
+      omega (arith, rank_ranked l s.place, s.sinks),
+      λ e. omega (arith, rank_ranked l s.place, s.falls (means.0 e)),
+    )
 
     pub left_none : (left : List Branch) → left ≡ [] → Left l r strict all left → Closed t l r
     left_none left e h p m s =
@@ -56,7 +62,7 @@ module _ (l : List Ranked) (r : Ranked) (strict : Bool) (all : List Branch) wher
         let b = x.0 in
         elim (h.done b x.1) [
           | inl a ↦ absurd (subst (Among b) e a)
-          | inr f ↦ subst (Sinks t l r) (one_successor t o r.node s.choice b.successor m x.2.leads s.leads) (sinks b.successor f)
+          | inr f ↦ subst (Sinks t (ranked_list l) (ranked_of r)) (one_successor t o r.node s.choice b.successor m x.2.leads s.leads) (sinks b.successor f)
         ]
 
     pub left_fails : (old new : List Branch) (b : Branch) → old ≡ b ∷ new → Left l r strict all old

@@ -1,5 +1,5 @@
 -- The judge's answer is the only one that fits, and proves what it says.
-use Rattle.std.proofs.Common.{◌≡◌, ℕ, ◌⊎◌, List, Ok, Err, Result, sym, refl, ap, ◌∙◌, subst, inl, inr}
+use Rattle.std.proofs.Common.{◌≡◌, ℕ, List, Ok, Err, Result, sym, ap, ◌∙◌, subst, inl, inr}
 use Rattle.rules.specs.declared.refusal.Refusal.{Refusal}
 use Rattle.tables.specs.Lines.{Lines}
 use Rattle.graph.proofs.Bridge.{ranks_refute}
@@ -7,8 +7,9 @@ use Rattle.graph.proofs.Ordered.{Ordered}
 use Rattle.records.specs.Claims.{Claim, Lays}
 use Rattle.records.proofs.Whole.{lays_one}
 use Rattle.truth.specs.Rows.{run_of}
+use Rattle.judge.specs.Refutations.{ranked_list}
 use Rattle.judge.specs.declared.verdict.Verdict as coded
-use Rattle.judge.specs.Judging.{limits_of, said, Right, Judged, Alone, NoRun, ThisRun, Proves}
+use Rattle.judge.specs.Judging.{limits_of, said, Right, Judged, Alone, Proves}
 
 module _ (t : Lines) (s : ℕ) (bytes : List ℕ) where
   one : (c d : Claim) → Lays (limits_of t s) c bytes → Lays (limits_of t s) d bytes → c ≡ d
@@ -37,8 +38,8 @@ module _ (t : Lines) (s : ℕ) (bytes : List ℕ) where
         }
     right_proves (Claim.graph nodes) x g =
         record {
-          keeps = ranks_refute t o nodes g.0;
-          meets = λ a q r k. ranks_refute t o nodes g.0 r ((q.meets r 0).1 k);
+          keeps = ranks_refute t o (ranked_list nodes) g.0;
+          meets = λ a q r k. ranks_refute t o (ranked_list nodes) g.0 r ((q.meets r 0).1 k);
         }
 
     pub proves : (r : Result coded.Verdict Refusal) → Judged t s bytes r → Proves t bytes r

@@ -9,6 +9,7 @@ use Rattle.graph.specs.Graphs.{Ranks, Once}
 use Rattle.records.specs.declared.limits.Limits.{Limits}
 use Rattle.records.specs.Claims.{Claim, laid, Lays}
 use Rattle.truth.specs.Rows.{run_of}
+use Rattle.judge.specs.Refutations.{ranked_list}
 use Rattle.judge.specs.declared.verdict.Verdict as coded
 use Rattle.judge.specs.declared.verdict.Verdict.TheVariants as verdict
 
@@ -25,7 +26,7 @@ said (Claim.graph nodes) = verdict.None
 -- or the list is a ranked graph in which no node stands twice
 abbrev pub Right : Lines → Claim → Type 0
 Right t (Claim.run lead cycle) = (lasts : 0 < length cycle) × Keeps (root t) (run_of lead cycle lasts)
-Right t (Claim.graph nodes) = Ranks t nodes × Once nodes
+Right t (Claim.graph nodes) = Ranks t (ranked_list nodes) × Once (ranked_list nodes)
 
 -- what is answered to a record: what its claim says, where it is right; else the layout is refused before the claim
 abbrev pub Judged : Lines → ℕ → List ℕ → Result coded.Verdict Refusal → Type 0

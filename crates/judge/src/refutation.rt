@@ -1,9 +1,9 @@
 // The judge of a graph: whether listed nodes with their ranks show that there is no run.
 ghost use Rattle.std.specs.Prelude.{◌≡◌, ℕ, ◌<◌, true, false, length, Decides};
-ghost use Rattle.graph.specs.Graphs.{entry, Once, Ranks};
+ghost use Rattle.graph.specs.Graphs.{Once, Ranks};
 ghost use Rattle.graph.specs.Unfolding.{Initial};
 ghost use Rattle.walk.specs.Outlines.{outlined};
-ghost use Rattle.judge.specs.Refutations.{Falls, Closed, Begins, New};
+ghost use Rattle.judge.specs.Refutations.{ranked_list, Falls, Closed, Begins, New};
 
 use crate::hints::{Hints, place_of};
 use graph::node::{Node, Ranked};
@@ -13,7 +13,7 @@ use walk::outline::Outline;
 // Does a node stand in the list with a rank not above this one, and below it where the fall is to be strict?
 fn falls(nodes: &[Ranked], hints: &Hints, rank: u16, strict: bool, to: Node) -> bool
     ensures yes { result ≡ true → Falls nodes.now rank strict to }
-    ensures no { result ≡ false → Once nodes.now → Falls nodes.now rank strict to → ⊥ }
+    ensures no { result ≡ false → Once (ranked_list nodes.now) → Falls nodes.now rank strict to → ⊥ }
 {
     match hints.find(nodes, to) {
         Some(place) => {
@@ -30,7 +30,7 @@ fn falls(nodes: &[Ranked], hints: &Hints, rank: u16, strict: bool, to: Node) -> 
 // Does every branch of a listed node lead to a listed node whose rank sinks?
 fn is_closed(outline: &Outline, nodes: &[Ranked], hints: &Hints, from: Ranked) -> bool
     ensures yes { result ≡ true → Closed (outlined outline.now) nodes.now from }
-    ensures no { result ≡ false → Once nodes.now → Closed (outlined outline.now) nodes.now from → ⊥ }
+    ensures no { result ≡ false → Once (ranked_list nodes.now) → Closed (outlined outline.now) nodes.now from → ⊥ }
 {
     let strict = outline.is_omega(from.node);
     let mut branches = Branches::new(outline, from.node);
@@ -78,7 +78,7 @@ fn hints_of(nodes: &[Ranked]) -> Hints {
 
 // Is the list a ranked graph in which no node stands twice?
 pub fn refutes(outline: &Outline, nodes: &[Ranked]) -> bool
-    ensures { Decides result (Ranks (outlined outline.now) nodes.now × Once nodes.now) }
+    ensures { Decides result (Ranks (outlined outline.now) (ranked_list nodes.now) × Once (ranked_list nodes.now)) }
 {
     if !begins(outline, nodes) {
         return false;

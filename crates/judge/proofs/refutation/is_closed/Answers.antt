@@ -19,7 +19,7 @@ returns c =
     let t = outlined c.args.outline.now in
     let exact = subst (Exact t c.args.from.node) c.new-branches.ensures.list c.new-branches.ensures.exact in
     record {
-      yes = λ _. left_none _ _ _ _ t (outline_ordered c.args.outline.now) c.is-omega-strict.ensures.means exact _ c.in-default.ensures.0 c.loop-branch.invariant;
+      yes = λ _. left_none _ _ _ _ t (outline_ordered c.args.outline.now) c.is_omega-strict.ensures.means exact _ c.in_default.ensures.0 c.loop-branch.invariant;
       no = λ e _ _. both_ways true e refl;
     }
 
@@ -29,6 +29,6 @@ returns-then-not-falls c =
     let exact = subst (Exact t c.args.from.node) c.new-branches.ensures.list c.new-branches.ensures.exact in
     record {
       yes = λ e. absurd (both_ways false refl e);
-      no = λ _ once. left_fails _ _ _ _ t (outline_ordered c.args.outline.now) c.is-omega-strict.ensures.means exact (remaining c.loop-branch.branches) _ c.in-Some.branch
+      no = λ _ once. left_fails _ _ _ _ t (outline_ordered c.args.outline.now) c.is_omega-strict.ensures.means exact (remaining c.loop-branch.branches) _ c.in-Some.branch
           c.in-Some.ensures c.loop-branch.invariant (c.falls.ensures.no c.if-not-falls.true once);
     }
