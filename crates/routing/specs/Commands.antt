@@ -1,5 +1,5 @@
 -- What a line of input asks for.
-use Rattle.std.specs.Prelude.{◌≡◌, ℕ, Bool, true, false, ◌||◌, List, [], ◌∷◌, ◌++◌, length, Some, None, codes, Option, ◌==◌, ◌≢◌, slice_index}
+use Rattle.std.specs.Prelude.{◌≡◌, ℕ, Bool, true, false, ◌||◌, List, ◌∷◌, ◌++◌, length, Some, None, codes, Option, ◌==◌, ◌≢◌, slice_index}
 use Rattle.routing.specs.declared.command.Verb.{Verb}
 use Rattle.routing.specs.declared.command.Verb.TheVariants.{Signals, Rule, Table, Question, Graph}
 use Rattle.routing.specs.declared.command.Command.{Command}

@@ -1,5 +1,5 @@
 -- A formula in words, each compound in brackets.
-use Rattle.std.specs.Prelude.{ℕ, ◌<◌, List, [], ◌∷◌, ◌++◌, length, codes, slice_index_or}
+use Rattle.std.specs.Prelude.{ℕ, ◌<◌, List, [], ◌++◌, length, codes, slice_index_or}
 use Rattle.rules.specs.declared.syntax.Atom.{Atom}
 use Rattle.rules.specs.declared.syntax.Atom.TheVariants.{True, False, Signal}
 use Rattle.rules.specs.declared.syntax.Unary.{Unary}

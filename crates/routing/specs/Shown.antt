@@ -1,5 +1,5 @@
 -- Bytes as people may see them.
-use Rattle.std.specs.Prelude.{ℕ, cond, ◌&&◌, List, [], ◌∷◌, map, nat_le}
+use Rattle.std.specs.Prelude.{ℕ, cond, ◌&&◌, List, map, nat_le}
 
 -- printable ASCII as it is, any other byte as '?'
 abbrev pub glyph : ℕ → ℕ

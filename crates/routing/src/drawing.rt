@@ -1,5 +1,5 @@
 // The command that explores a graph.
-use crate::graph::{Drawn, SHOWN_NODES, Told};
+use crate::nodes::{Drawn, SHOWN_NODES, Told};
 use crate::refused::{Pointed, Told as ToldRefusal};
 use rules::signals::SignalList;
 use std::io;

@@ -39,7 +39,7 @@ fn show<W: fmt::Write>(
     requires ordered { Ordered entries.now (length entries.now) }
     requires stands { Standing entries.now }
     requires within { at < length entries.now }
-    ensures { WritesOnOk write_str_gives f.old result (phrase (names list.now) (meaning entries.now (length entries.now) at)) f.new }
+    ensures { WritesOnOk W.write_str_gives f.old result (phrase (names list.now) (meaning entries.now (length entries.now) at)) f.new }
 {
     match entries[at] {
         Entry::Leaf(atom) => show_atom(atom, list, f),
@@ -60,7 +60,7 @@ fn show<W: fmt::Write>(
 
 // Writes a constant, or a signal by its name.
 fn show_atom<W: fmt::Write>(atom: Atom, list: &[u8], f: &mut fmt::Formatter<W>) -> fmt::Result
-    ensures { WritesOnOk write_str_gives f.old result (leaf (names list.now) atom) f.new }
+    ensures { WritesOnOk W.write_str_gives f.old result (leaf (names list.now) atom) f.new }
 {
     match atom {
         Atom::True => f.write_str("true"),

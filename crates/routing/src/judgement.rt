@@ -1,6 +1,6 @@
 // The command that judges a record.
 use crate::desk::tell_refusal;
-use crate::graph::{Listed, SHOWN_NODES};
+use crate::nodes::{Listed, SHOWN_NODES};
 use crate::refused::Told;
 use crate::run::{RunTable, SHOWN_POSITIONS};
 use crate::table::parted;

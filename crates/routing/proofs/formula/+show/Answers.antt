@@ -6,8 +6,8 @@ use Rattle.routing.specs.Phrases.{opening, between, phrase}
 use Rattle.routing.proofs.Writing.{step_is, three_steps, five_steps}
 use Rattle.routing.proofs.formula.+show.Goals as goal
 
-pub returns-in-ok-show : goal.returns-in-ok-show
-returns-in-ok-show g t c =
+pub returns-in_ok-show-in-One : goal.returns-in_ok-show-in-One
+returns-in_ok-show-in-One g t c =
     let ns : List (List ℕ) = names c.args.list.now in
     let m : ℕ → Formula = meaning c.args.entries.now (length c.args.entries.now) in
     let stands : m c.args.at ≡ unary c.in-One.sign (m c.in-One.inner) =
@@ -17,12 +17,12 @@ returns-in-ok-show g t c =
     ap (λ w. w ++ (inner ++ codes ")")) c.opening.ensures ∙ sym (ap (phrase ns) stands) in
     λ p ok.
     step_is g.W.Write.write_str_gives _ _ _ _ whole
-    (three_steps g.W.Write.write_str_gives c.args.f.now c.write-str.new.self c.show.new.f c.write-str-in-One.new.self c.opening.result.now inner (codes ")")
-    (λ q. c.in-ok-write-str.ensures.writes q (refl {a = true})) (λ q. c.in-ok-show.ensures q (refl {a = true})) (λ q. c.write-str-in-One.ensures.writes q ok))
+    (three_steps g.W.Write.write_str_gives c.args.f.now c.write_str.new.self c.show.new.f c.write_str-in-One.new.self c.opening.result.now inner (codes ")")
+    (λ q. c.in_ok-write_str-in-One.ensures.writes q (refl {a = true})) (λ q. c.in_ok-show-in-One.ensures q (refl {a = true})) (λ q. c.write_str-in-One.ensures.writes q ok))
     p
 
-pub returns-in-ok-show-3 : goal.returns-in-ok-show-3
-returns-in-ok-show-3 g t c =
+pub returns-in_ok-show-in-Two-2 : goal.returns-in_ok-show-in-Two-2
+returns-in_ok-show-in-Two-2 g t c =
     let ns : List (List ℕ) = names c.args.list.now in
     let m : ℕ → Formula = meaning c.args.entries.now (length c.args.entries.now) in
     let stands : m c.args.at ≡ binary c.in-Two.sign (m c.in-Two.left) (m c.in-Two.right) =
@@ -33,8 +33,8 @@ returns-in-ok-show-3 g t c =
     ap (λ w. codes "(" ++ (left ++ (w ++ (right ++ codes ")")))) c.between.ensures ∙ sym (ap (phrase ns) stands) in
     λ p ok.
     step_is g.W.Write.write_str_gives _ _ _ _ whole
-    (five_steps g.W.Write.write_str_gives c.args.f.now c.write-str-in-Two.new.self c.show-in-Two.new.f c.write-str-in-Two-2.new.self c.show-in-Two-2.new.f c.write-str-in-Two-3.new.self
+    (five_steps g.W.Write.write_str_gives c.args.f.now c.write_str-in-Two.new.self c.show-in-Two.new.f c.write_str-in-Two-2.new.self c.show-in-Two-2.new.f c.write_str-in-Two-3.new.self
     (codes "(") left c.between.result.now right (codes ")")
-    (λ q. c.in-ok-write-str-2.ensures.writes q (refl {a = true})) (λ q. c.in-ok-show-2.ensures q (refl {a = true})) (λ q. c.in-ok-write-str-3.ensures.writes q (refl {a = true}))
-    (λ q. c.in-ok-show-3.ensures q (refl {a = true})) (λ q. c.write-str-in-Two-3.ensures.writes q ok))
+    (λ q. c.in_ok-write_str-in-Two.ensures.writes q (refl {a = true})) (λ q. c.in_ok-show-in-Two.ensures q (refl {a = true})) (λ q. c.in_ok-write_str-in-Two-2.ensures.writes q (refl {a = true}))
+    (λ q. c.in_ok-show-in-Two-2.ensures q (refl {a = true})) (λ q. c.write_str-in-Two-3.ensures.writes q ok))
     p

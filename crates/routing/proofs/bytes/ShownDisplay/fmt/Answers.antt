@@ -11,8 +11,8 @@ loop-b-preserved g c =
     let lt : i < length xs = search rules in
     let is : c.glyph.result ≡ glyph (get_or xs i 0) = c.glyph.ensures in
     step_is g.W.Write.write_str_gives _ _ _ _ (ap (λ k. glyphs (take i xs) ++ encode k) is ∙ glyphs_more xs i lt)
-    (step_then g.W.Write.write_str_gives c.args.f.now c.loop-b.f c.write-char.new.self (glyphs (take i xs)) (encode c.glyph.result)
-    c.loop-b.invariant (λ q. c.in-ok-write-char.ensures.writes q (refl {a = true})))
+    (step_then g.W.Write.write_str_gives c.args.f.now c.loop-b.f c.write_char.new.self (glyphs (take i xs)) (encode c.glyph.result)
+    c.loop-b.invariant (λ q. c.in_ok-write_char.ensures.writes q (refl {a = true})))
 
 pub returns-clause-writes : goal.returns-clause-writes
 returns-clause-writes g c =
