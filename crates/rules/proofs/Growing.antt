@@ -23,10 +23,10 @@ length_build : (fs : List Formula) (xs : List Entry) → length (build fs xs) �
 length_build fs [] = omega arith
 length_build fs (x ∷ xs) = let i = length_build (fs ++ (made fs x ∷ [])) xs in let p = length_push fs (made fs x) in omega arith
 
-get_d_front : (fs gs : List Formula) (k : ℕ) (d : Formula) → k < length fs → get_or (fs ++ gs) k d ≡ get_or fs k d
-get_d_front [] gs k d h = absurd (omega arith)
-get_d_front (f ∷ fs) gs zero d h = refl
-get_d_front (f ∷ fs) gs (suc k) d h = get_d_front fs gs k d (omega arith)
+get_or_front : (fs gs : List Formula) (k : ℕ) (d : Formula) → k < length fs → get_or (fs ++ gs) k d ≡ get_or fs k d
+get_or_front [] gs k d h = absurd (omega arith)
+get_or_front (f ∷ fs) gs zero d h = refl
+get_or_front (f ∷ fs) gs (suc k) d h = get_or_front fs gs k d (omega arith)
 
 get_or_last : (fs : List Formula) (f d : Formula) (k : ℕ) → k ≡ length fs → get_or (fs ++ (f ∷ [])) k d ≡ f
 get_or_last [] f d zero h = refl
@@ -36,7 +36,7 @@ get_or_last (g ∷ fs) f d (suc k) h = get_or_last fs f d k (omega arith)
 
 get_or_build : (fs : List Formula) (xs : List Entry) (k : ℕ) (d : Formula) → k < length fs → get_or (build fs xs) k d ≡ get_or fs k d
 get_or_build fs [] k d h = refl
-get_or_build fs (x ∷ xs) k d h = get_or_build (fs ++ (made fs x ∷ [])) xs k d (omega (arith, length_push fs (made fs x))) ∙ get_d_front fs (made fs x ∷ []) k d h
+get_or_build fs (x ∷ xs) k d h = get_or_build (fs ++ (made fs x ∷ [])) xs k d (omega (arith, length_push fs (made fs x))) ∙ get_or_front fs (made fs x ∷ []) k d h
 
 -- the newest entry's formula
 pub meaning_new : (xs : List Entry) (n : ℕ) (v : Entry) → n < length xs → meaning (set xs n v) (n + 1) n ≡ made (build [] (take n xs)) v

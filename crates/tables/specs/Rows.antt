@@ -7,7 +7,7 @@ use Rattle.rules.specs.declared.syntax.Word.{Word}
 use Rattle.rules.specs.Formula.{Formula, atom, unary, binary, spell}
 use Rattle.rules.specs.Owed.{said}
 use Rattle.rules.specs.Text.{lexed}
-use Rattle.tables.specs.Lines.{choices as choicesIn}
+use Rattle.tables.specs.Lines.{choices as choices_in}
 use Rattle.tables.specs.Limits.{kept}
 
 pub record Row : Type 0 where
@@ -49,7 +49,7 @@ rows =
 
 -- what the text says over the list of p and q, and how many lines and choice lines the rule's normal form has
 abbrev pub computed : Row → Option (List Word) × ℕ × ℕ
-computed r = (said (lexed (codes "p q") r.text 0), length (kept r.rule), choicesIn (kept r.rule))
+computed r = (said (lexed (codes "p q") r.text 0), length (kept r.rule), choices_in (kept r.rule))
 
 abbrev pub stated : Row → Option (List Word) × ℕ × ℕ
 stated r = (Some (spell r.rule), r.lines, r.choices)
