@@ -2,7 +2,7 @@ use Rattle.std.proofs.Common.{◌≡◌, ℕ, true, List, ◌++◌, length, code
 use Rattle.rules.specs.Formula.{Formula, unary, binary}
 use Rattle.rules.specs.Entries.{meaning, Stands}
 use Rattle.rules.specs.Signals.{names}
-use Rattle.routing.specs.Phrases.{opening, between, phrase}
+use Rattle.routing.specs.Phrases.{phrase}
 use Rattle.routing.proofs.Writing.{step_is, three_steps, five_steps}
 use Rattle.routing.proofs.formula.+show.Goals as goal
 
