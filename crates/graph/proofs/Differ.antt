@@ -1,9 +1,9 @@
 -- More of the program's operations on masks.
-use Rattle.std.proofs.Common.{◌≡◌, ℕ, ◌/◌, ◌%◌, ◌^◌, ◌<◌, ◌≤◌, Bool, true, false, not, ◌&&◌, ◌||◌, eqb, ◌⊎◌, Decides, sym, refl, ap, ◌∙◌, subst, ap₂, inl, inr, arith}
+use Rattle.std.proofs.Common.{◌≡◌, ℕ, ◌/◌, ◌%◌, ◌^◌, ◌<◌, ◌≤◌, Bool, true, false, not, ◌&&◌, ◌||◌, eqb, ltb, ◌⊎◌, Decides, sym, refl, ap, ◌∙◌, subst, ap₂, inl, inr, arith}
 use native.Mathlib.Nat.{div-eq_of_lt}
 use lib.Bits.{bit_and, bit_xor}
 use Rattle.std.proofs.lemmas.Nat.{xor_shr, xor_mod, pow_below}
-use Rattle.std.proofs.lemmas.Bool.{cases_eq, and_parts, eqb-true, eq-eqb}
+use Rattle.std.proofs.lemmas.Bool.{cases_eq, and_parts, eqb-true, eq-eqb, le-ltb}
 use Rattle.rules.specs.Runs.{on}
 use Rattle.graph.specs.Sets.{has}
 use Rattle.graph.proofs.Words.{has_and}
@@ -43,6 +43,10 @@ unfolding on
 has_beyond m w k h l =
     let s : m < 2 ^ k = elim (cases_eq w k) [ inl e ↦ subst (λ (x : ℕ). m < 2 ^ x) e h | inr d ↦ omega (arith, pow_below w k (omega arith)) ] in
     ap (λ (x : ℕ). eqb (x % 2) 1) (div-eq_of_lt s)
+
+-- what `k < w && ..` answers from w on
+pub has_outside : (m w k : ℕ) → m < 2 ^ w → w ≤ k → ltb k w ≡ has m k
+has_outside m w k h l = le-ltb k w l ∙ sym (has_beyond m w k h l)
 
 both_true : (x y : Bool) → (x ≡ true → y ≡ true) → (x && y) ≡ x
 both_true true y h = h refl

@@ -1,7 +1,9 @@
 -- Bytes in hexadecimal, two small digits for each.
-use Rattle.std.specs.Prelude.{◌≡◌, ℕ, ◌+◌, ◌/◌, ◌%◌, ◌<◌, cond, List, [], ◌∷◌, Some, None, Option, ◌≢◌, nat_lt}
+use Rattle.std.specs.Prelude.{◌≡◌, ℕ, ◌+◌, ◌/◌, ◌%◌, ◌<◌, ◌⊎◌, cond, List, [], ◌∷◌, Some, None, Option, ◌≢◌, nat_lt}
 use Rattle.hexadecimal.specs.declared.HexFault.{HexFault}
 use Rattle.hexadecimal.specs.declared.HexFault.TheVariants.{Digits, Memory}
+use Rattle.hex.specs.declared.error.FromHexError.{FromHexError}
+use Rattle.hex.specs.declared.error.FromHexError.TheVariants.{InvalidHexCharacter, OddLength, InvalidStringLength, OutOfMemory}
 
 -- the digit of a value below 16: 0 to 9, then a to f
 abbrev pub figure : ℕ → ℕ
@@ -11,6 +13,10 @@ figure d = cond (nat_lt d 10) (48 + d) (87 + d)
 abbrev pub spelled : List ℕ → List ℕ
 spelled [] = []
 spelled (b ∷ bs) = figure (b / 16) ∷ (figure (b % 16) ∷ spelled bs)
+
+-- no capital
+abbrev pub IsSmall : ℕ → Type 0
+IsSmall c = (c < 65) ⊎ (90 < c)
 
 -- the value whose digit b is, or that it is none
 abbrev pub Valued : ℕ → Option ℕ → Type 0
@@ -30,3 +36,10 @@ Bytes (b ∷ bs) = (b < 256) × Bytes bs
 abbrev pub Unspelled : List ℕ → HexFault → Type 0
 Unspelled digits Digits = (bs : List ℕ) → Bytes bs → spelled bs ≢ digits
 Unspelled digits Memory = Unit {0}
+
+-- what the decoder's errors say here
+abbrev pub fault_of : FromHexError → HexFault
+fault_of (InvalidHexCharacter c index) = Digits
+fault_of OddLength = Digits
+fault_of InvalidStringLength = Digits
+fault_of OutOfMemory = Memory

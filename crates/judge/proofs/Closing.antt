@@ -19,9 +19,6 @@ pub record Left (l : List Listed) (r : Listed) (strict : Bool) (all left : List 
   pub done : (b : Branch) → Among b all → Among b left ⊎ Falls l r.rank strict b.successor
 
 module _ (l : List Listed) (r : Listed) (strict : Bool) (all : List Branch) where
-  pub left_all : (left : List Branch) → left ≡ all → Left l r strict all left
-  left_all left e = record { within = λ b a. subst (Among b) e a; done = λ b a. inl (subst (Among b) (sym e) a) }
-
   pub left_more : (old new : List Branch) (b : Branch) → old ≡ b ∷ new → Falls l r.rank strict b.successor → Left l r strict all old → Left l r strict all new
   left_more old new b e f h =
       record {

@@ -1,14 +1,15 @@
 -- Lists in which no node stands twice, and which are ranked graphs.
-use Rattle.std.proofs.Common.{◌≡◌, ℕ, ◌-◌, ◌<◌, ◌≤◌, Bool, true, List, length, take, sym, ap, ◌∙◌, subst, inl, inr, arith, length-take}
-use Rattle.std.proofs.lemmas.List.{get_or-take, length-map}
+use Rattle.std.proofs.Common.{◌≡◌, ℕ, ◌<◌, ◌≤◌, Bool, true, false, List, length, Some, None, Option, Decides, sym, ap, ◌∙◌, subst, inl, inr, arith}
+use Rattle.std.proofs.lemmas.List.{length-map}
 use Rattle.std.proofs.Math.ListN.{get_or-map as default_map}
-use Rattle.std.proofs.lemmas.Bool.{cases_order}
+use Rattle.std.proofs.lemmas.Bool.{cases_order, both_ways}
+use Rattle.std.specs.Option.{MatchOption}
 use Rattle.tables.specs.Lines.{Lines}
 use Rattle.graph.specs.declared.node.Node.{Node}
 use Rattle.graph.specs.declared.node.Ranked.{Ranked as Listed}
 use Rattle.graph.specs.Graphs.{Ranked, entry, Step, Sinks, Ranks, Once}
 use Rattle.graph.specs.Unfolding.{Initial}
-use Rattle.judge.specs.Refutations.{ranked_of, ranked_list, listed, Stands, Falls, Closed, Begins, New}
+use Rattle.judge.specs.Refutations.{ranked_of, ranked_list, listed, Stands, Place, Falls, Closed, Begins, New}
 
 -- the graph's definitions read the list as it stands
 pub length_ranked : (l : List Listed) → length (ranked_list l) ≡ length l
@@ -23,19 +24,6 @@ node_ranked l a = ap (λ (z : Ranked). z.node) (entry_ranked l a)
 pub rank_ranked : (l : List Listed) (a : ℕ) → (entry (ranked_list l) a).rank ≡ (listed l a).rank
 rank_ranked l a = ap (λ (z : Ranked). z.rank) (entry_ranked l a)
 
--- where a node stands among the first n, it stands in the list
-pub stands_early : (l : List Listed) (n : ℕ) (m : Node) → n ≤ length l → (a : ℕ) → Stands (take (n - 0) l) m a → (a < n) × ((listed l a).node ≡ m)
-stands_early l n m h a s =
-    let e : n - 0 ≡ n = omega arith in
-    let k : Stands (take n l) m a = subst (λ (z : ℕ). Stands (take z l) m a) e s in
-    let b : a < n = omega (arith, k.0, length-take n l) in
-    (b, ap (λ (z : Listed). z.node) (sym (get_or-take n l a _ b)) ∙ k.1)
-
-pub early_stands : (l : List Listed) (n : ℕ) (m : Node) → n ≤ length l → (a : ℕ) → a < n → (listed l a).node ≡ m → Stands (take (n - 0) l) m a
-early_stands l n m h a b q =
-    let e : n ≡ n - 0 = omega arith in
-    subst (λ (z : ℕ). Stands (take z l) m a) e (omega (arith, length-take n l), ap (λ (z : Listed). z.node) (get_or-take n l a _ b) ∙ q)
-
 pub once_new : (l : List Listed) → Once (ranked_list l) → (a : ℕ) → a < length l → New l a
 once_new l o a h b g e = let q : b ≡ a = o b a (omega (arith, length_ranked l)) (omega (arith, length_ranked l)) (node_ranked l b ∙ e ∙ sym (node_ranked l a)) in omega arith
 
@@ -45,10 +33,19 @@ only_place l o m a b s t =
     o a b (omega (arith, length_ranked l, s.0)) (omega (arith, length_ranked l, t.0)) (node_ranked l a ∙ s.1 ∙ sym t.1 ∙ sym (node_ranked l b))
 
 -- so a fall to it is a fall to that place
-pub fell : (l : List Listed) (r : ℕ) (strict : Bool) (m : Node) (p : ℕ) → Once (ranked_list l) → Stands l m p → Falls l r strict m
+fell : (l : List Listed) (r : ℕ) (strict : Bool) (m : Node) (p : ℕ) → Once (ranked_list l) → Stands l m p → Falls l r strict m
     → ((listed l p).rank ≤ r) × (strict ≡ true → (listed l p).rank < r)
 fell l r strict m p o s f =
     subst (λ (x : ℕ). ((listed l x).rank ≤ r) × (strict ≡ true → (listed l x).rank < r)) (only_place l o m f.0 p f.1 s) (f.2, f.3)
+
+-- where the rank at a node's place does not fall, it falls nowhere, since the node stands at no other
+pub falls_not : (l : List Listed) (r : ℕ) (strict : Bool) (m : Node) (o : Option ℕ) (b : Bool) (Q : ℕ → Type 0) → Place l m o → MatchOption o (b ≡ false) Q
+    → ((p : ℕ) → Q p → Decides b (((listed l p).rank ≤ r) × (strict ≡ true → (listed l p).rank < r)))
+    → b ≡ false → Once (ranked_list l) → Falls l r strict m → ⊥
+falls_not l r strict m None b Q p q d e once f = p f.0 f.1
+falls_not l r strict m (Some a) b Q p q d e once f =
+    let k : Decides b (((listed l a).rank ≤ r) × (strict ≡ true → (listed l a).rank < r)) = d a q in
+    both_ways b e (k.1 (fell l r strict m a once p f))
 
 pub new_once : (l : List Listed) → ((a : ℕ) → a < length l → New l a) → Once (ranked_list l)
 new_once l h a b p' q' e' =
@@ -75,7 +72,3 @@ ranked_once t l b h = (
 pub ranks_closed : (t : Lines) (l : List Listed) → Ranks t (ranked_list l) → (a : ℕ) → a < length l → Closed t l (listed l a)
 ranks_closed t l r a k =
     subst (λ (z : Ranked). (p : ℕ) (m : Node) → Step t z.node p m → Sinks t (ranked_list l) z m) (entry_ranked l a) (r.closed a (omega (arith, length_ranked l)))
-
--- and it begins with the initial node
-pub ranks_begins : (t : Lines) (l : List Listed) → Ranks t (ranked_list l) → Begins t l
-ranks_begins t l r = (omega (arith, length_ranked l, r.some), subst (Initial t) (node_ranked l 0) r.first)

@@ -10,19 +10,18 @@ const SLOTS: usize = 4096;
 // So many slots, one after another, are tried for a node.
 const TRIES: usize = 8;
 
-const EMPTY: u16 = 65535;
-
-// The numbers of nodes, each in a slot that its node's bits choose, or in one of the next.
+// The numbers of nodes, each in a slot that its node's bits choose, or in one of the next. A map would allocate, and the judge
+// does not.
 #[derive(Drop)]
 pub struct Hints {
-    slots: [u16; SLOTS],
+    slots: [Option<u16>; SLOTS],
 }
 
 // The first slot to try for a node.
 fn slot_of(node: Node) -> usize
     ensures { result < 4096 }
 {
-    let low = (node.label & 0xffff_ffff_ffff_ffff) as u64;
+    let low = (node.label & u128::from(u64::MAX)) as u64;
     let high = (node.label >> 64) as u64;
     let rest = u64::from(node.marks) * 65536 + u64::from(node.history);
     let mixed = low.wrapping_mul(0x9e37_79b9_7f4a_7c15)
@@ -43,19 +42,18 @@ impl Hints {
     // No guesses.
     pub fn new() -> Hints {
         Hints {
-            slots: [EMPTY; SLOTS],
+            slots: [None; SLOTS],
         }
     }
 
     // Notes that a node has this number; where all its slots are taken it is not noted.
     pub fn note(&mut self, node: Node, number: u16) {
         let first = slot_of(node);
-        for step in 0..TRIES {
-            let slot = (first + step) % SLOTS;
-            if self.slots[slot] == EMPTY {
-                self.slots[slot] = number;
-                return;
-            }
+        let free = (first..first + TRIES)
+            .map(|slot| slot % SLOTS)
+            .find(|slot| self.slots[*slot].is_none());
+        if let Some(slot) = free {
+            self.slots[slot] = Some(number);
         }
     }
 
@@ -64,25 +62,16 @@ impl Hints {
         ensures { Guessed nodes.now node result }
     {
         let first = slot_of(node);
-        for step in 0..TRIES {
-            let number = self.slots[(first + step) % SLOTS] as usize;
-            if number >= nodes.len() {
-                return None;
-            }
-            if nodes[number].node == node {
-                return Some(number);
-            }
-        }
-        None
+        (first..first + TRIES)
+            .map_while(|slot| self.slots[slot % SLOTS])
+            .map(usize::from)
+            .find(|number| nodes.get(*number).is_some_and(|listed| listed.node == node))
     }
 
     // A place of the node in the list, if there is one.
     pub fn find(&self, nodes: &[Ranked], node: Node) -> Option<usize>
         ensures { Place nodes.now node result }
     {
-        match self.guess(nodes, node) {
-            Some(number) => Some(number),
-            None => place_of(nodes, node),
-        }
+        self.guess(nodes, node).or_else(|| place_of(nodes, node))
     }
 }

@@ -1,8 +1,8 @@
 // The judge of a record on a table.
-ghost use Rattle.std.specs.Prelude.{◌≡◌, ◌+◌, ◌<◌, ◌≤◌, length, Decides};
+ghost use Rattle.std.specs.Prelude.{◌≡◌, ◌+◌, ◌<◌, ◌≤◌, ◌↔◌, length, IsTrue};
 ghost use Rattle.records.specs.Claims.{Claim as Claimed, claim_of, Counts};
 ghost use Rattle.walk.specs.Outlines.{outlined};
-ghost use Rattle.judge.specs.Judging.{limits_of, said, Right, Judged, Alone, Proves};
+ghost use Rattle.judge.specs.Judging.{limits_of, Right, Judged, Alone, Proves};
 
 use crate::refutation::refutes;
 use crate::verdict::Verdict;
@@ -18,10 +18,9 @@ use walk::outline::Outline;
 pub fn limits_of(outline: &Outline, signals: u8) -> Limits
     ensures { result ≡ limits_of (outlined outline.now) signals }
 {
-    let lines = outline.lines().len() as u8;
     Limits {
         signals,
-        lines,
+        lines: outline.lines().len() as u8,
         eventualities: outline.eventualities(),
     }
 }
@@ -30,7 +29,7 @@ pub fn limits_of(outline: &Outline, signals: u8) -> Limits
 fn keeps(outline: &Outline, lead: &[u16], cycle: &[u16], rows: &mut [u128]) -> bool
     requires some { 0 < length cycle.now }
     requires room { length lead.now + length cycle.now ≤ length rows.old }
-    ensures { Decides result (Right (outlined outline.now) (Claimed.run lead.now cycle.now)) }
+    ensures { IsTrue result ↔ Right (outlined outline.now) (Claimed.run lead.now cycle.now) }
 {
     let last = outline.lines().len() - 1;
     fill(outline, lead, cycle, rows) && has(rows[0], last as u8)
@@ -40,21 +39,11 @@ fn keeps(outline: &Outline, lead: &[u16], cycle: &[u16], rows: &mut [u128]) -> b
 fn is_right(outline: &Outline, claim: Claim<'_>, rows: &mut [u128]) -> bool
     requires counts { Counts (claim_of claim) }
     requires room { 2047 ≤ length rows.old }
-    ensures { Decides result (Right (outlined outline.now) (claim_of claim.entry)) }
+    ensures { IsTrue result ↔ Right (outlined outline.now) (claim_of claim.entry) }
 {
     match claim {
         Claim::Run { lead, cycle } => keeps(outline, lead, cycle, rows),
         Claim::Graph(nodes) => refutes(outline, nodes),
-    }
-}
-
-// What a claim says.
-fn said(claim: Claim<'_>) -> Verdict
-    ensures { result ≡ said (claim_of claim.entry) }
-{
-    match claim {
-        Claim::Run { .. } => Verdict::Run,
-        Claim::Graph(_) => Verdict::None,
     }
 }
 
@@ -71,7 +60,7 @@ pub fn judge(
 {
     let claim = Claim::read(bytes, limits_of(outline, signals), &mut work.space)?;
     if is_right(outline, claim, &mut work.rows) {
-        Ok(said(claim))
+        Ok(claim.into())
     } else {
         Err(Refusal::Claim)
     }

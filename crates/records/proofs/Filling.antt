@@ -1,8 +1,7 @@
 -- Items that are read into a table, one after another.
-use Rattle.std.proofs.Common.{◌≡◌, ℕ, suc, ◌+◌, ◌-◌, ◌<◌, ◌≤◌, List, [], ◌∷◌, ◌++◌, length, take, drop, set, sym, refl, ap, ◌∙◌, append_assoc, append-nil, arith, length-set}
-use Rattle.std.proofs.lemmas.List.{take_all, take_at, take_more_set, length-take-le}
-use Rattle.records.specs.Parsing.{Got, lost, got, next, many, count, counted}
-use Rattle.records.specs.Codes.{count_most}
+use Rattle.std.proofs.Common.{◌≡◌, ℕ, suc, ◌+◌, ◌-◌, ◌<◌, ◌≤◌, List, [], ◌∷◌, ◌++◌, length, take, set, sym, refl, ap, ◌∙◌, append_assoc, append-nil, arith, length-set}
+use Rattle.std.proofs.lemmas.List.{take_all, take_more_set}
+use Rattle.records.specs.Parsing.{Got, lost, got, next, many}
 
 -- what was read, and what a reading goes on to give
 abbrev pub after : {A : Type 0} → List A → Got (List A) → Got (List A)
@@ -53,14 +52,3 @@ module _ {A : Type 0} (p : List ℕ → Got A) where
       let z : length table - i ≡ 0 = omega arith in
       f ∙ ap (λ (k : ℕ). after (take i table) (many k p rest)) z
       ∙ ap (λ (xs : List A). got xs rest) (append-nil (take i table) ∙ take_all i table h)
-
--- a count, and a table whose first items have been read
-pub counted_front : {A : Type 0} (p : List ℕ → Got A) (bs : List ℕ) (n : ℕ) (r : List ℕ) (old front : List A) (q : List ℕ) → count (length old) bs ≡ got n r
-    → many (length (take n old)) p r ≡ got front q → length front ≡ length (take n old) → counted (length old) p bs ≡ got (take n (front ++ drop n old)) q
-counted_front p bs n r old front q e f same =
-    let few : n ≤ length old = count_most (length old) bs n r e in
-    let long : length (take n old) ≡ n = length-take-le n old few in
-    ap (λ (g : Got ℕ). next g (λ n r. many n p r)) e
-    ∙ ap (λ (k : ℕ). many k p r) (sym long)
-    ∙ f
-    ∙ ap (λ (xs : List _). got xs q) (sym (take_at front (drop n old) n (same ∙ long)))

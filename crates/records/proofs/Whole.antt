@@ -1,10 +1,15 @@
 -- The layout of whole records: a claim is read from its own record, and from no other bytes.
-use Rattle.std.proofs.Common.{◌≡◌, ℕ, ◌<◌, ◌≤◌, Bool, true, false, cond, eqb, ◌⊎◌, List, [], ◌∷◌, ◌++◌, length, sym, refl, ap, ◌∙◌, subst, inl, inr, append-nil, arith}
+use Rattle.std.proofs.Common.{◌≡◌, ℕ, ◌<◌, ◌≤◌, Bool, true, false, cond, eqb, ◌⊎◌, List, [], ◌∷◌, ◌++◌, length, Some, None, Option, sym, refl, ap, ◌∙◌, subst, inl, inr, append-nil, arith}
 use Rattle.std.proofs.lemmas.Bool.{eqb-true}
+use Rattle.std.specs.Option.{ok_or}
+use Rattle.rules.specs.declared.refusal.Refusal.TheVariants.{Record}
 use Rattle.graph.specs.declared.node.Ranked.{Ranked}
+use Rattle.records.specs.declared.claim.Claim as coded
 use Rattle.records.specs.declared.limits.Limits.{Limits}
-use Rattle.records.specs.Claims.{Claim, big, listed, node_bytes, laid, Counts, Every, Bits, NodeWithin, Within, Lays}
+use Rattle.records.specs.Claims.{Claim, claim_of, big, listed, node_bytes, laid, Counts, Every, Bits, NodeWithin, Within, Lays}
 use Rattle.records.specs.Parsing.{Got, lost, got, next, byte, counted, mask, node, ended, body, record_of}
+use Rattle.records.specs.Reading.{ReadAs, Alone}
+use Rattle.records.specs.Spaces.{understood}
 use Rattle.records.specs.Laws.{OneLayout}
 use Rattle.records.proofs.Claiming.{length_laid}
 use Rattle.records.specs.Codes.{Layout, lost_got, same_value, next_parts, byte_only, counted_layout}
@@ -106,6 +111,11 @@ lays_one l c d bs h k = same_value c d [] [] (sym (lays_read l c bs h) ∙ lays_
 
 pub lost_none : (l : Limits) (c : Claim) (bs : List ℕ) → record_of l bs ≡ lost → Lays l c bs → ⊥
 lost_none l c bs e h = lost_got c [] (sym e ∙ lays_read l c bs h)
+
+-- what is read is the claim whose record it is, and a refusal says that it is the record of none
+pub read_as : (l : Limits) (bs : List ℕ) (o : Option coded.Claim) → record_of l bs ≡ understood o → ReadAs l bs (ok_or o Record) × Alone l bs (ok_or o Record)
+read_as l bs None e = ((refl, λ d k. lost_none l d bs e k), tt)
+read_as l bs (Some c) e = let h = read_only l bs (claim_of c) e in (h, λ d k. lays_one l d (claim_of c) bs k h)
 
 -- Two claims may be lawful under different limits: both are, where every bit may stand.
 widest : Limits

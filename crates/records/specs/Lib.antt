@@ -1,5 +1,6 @@
 pub mod Appending
 pub mod Claims
+pub mod Kinds
 pub mod Laws
 pub mod Parsing
 pub mod Reading

@@ -9,7 +9,7 @@ use Rattle.graph.specs.declared.node.Ranked.{Ranked}
 use Rattle.graph.specs.Sets.{has}
 use Rattle.records.specs.declared.limits.Limits.{Limits}
 use Rattle.records.specs.Claims.{big, field, flag, low, high, map_of, node_bytes, Bits, NodeWithin}
-use Rattle.records.specs.Parsing.{Got, got, next, check, byte, number, mask, taken, fitting, ranked, fields, node}
+use Rattle.records.specs.Parsing.{Got, lost, got, next, check, byte, number, mask, taken, fitting, ranked, fields, node, parts, any_node}
 use Rattle.records.specs.Codes.{Layout, same_value, same_rest, next_parts, check_parts, byte_only, byte_reads, number_layout, tested, allowed}
 
 pub mask_layout : (l : Limits) → Layout (mask l) (big 2) (Bits l.signals)
@@ -258,3 +258,30 @@ node_layout l = record {
       let k = check_parts (nat_lt c.0 32) (fields l c.0 c.1.0) n r c.1.2 in
       node_only l c.0 bs c.1.0 n r (byte_only bs c.0 c.1.0 c.1.1).1 (ltb-true c.0 32 k.0) (fields_only l c.0 c.1.0 n r k.1);
 }
+
+-- a node within the limits is any node, with their test
+
+next_next : {A B C : Type 0} (g : Got A) (f : A → List ℕ → Got B) (h : B → List ℕ → Got C) → next (next g f) h ≡ next g (λ a r. next (f a r) h)
+next_next lost f h = refl
+next_next (got a r) f h = refl
+
+next_same : {A B : Type 0} (g : Got A) (f h : A → List ℕ → Got B) → ((a : A) (r : List ℕ) → f a r ≡ h a r) → next g f ≡ next g h
+next_same lost f h e = refl
+next_same (got a r) f h e = e a r
+
+next_check : {A B : Type 0} (t : Bool) (g : Got A) (h : A → List ℕ → Got B) → next (check t g) h ≡ check t (next g h)
+next_check true g h = refl
+next_check false g h = refl
+
+parts_mean : (l : Limits) (m : ℕ) (bs : List ℕ) → next (parts m bs) (λ n r. check (fitting l n.node) (got n r)) ≡ fields l m bs
+parts_mean l m bs =
+    let H : Ranked → List ℕ → Got Ranked = λ n r. check (fitting l n.node) (got n r) in
+    next_next (taken 8 (has m 0) bs) _ H ∙ next_same (taken 8 (has m 0) bs) _ _ (λ a r.
+    next_next (taken 8 (has m 1) r) _ H ∙ next_same (taken 8 (has m 1) r) _ _ (λ b r.
+    next_next (taken 2 (has m 2) r) _ H ∙ next_same (taken 2 (has m 2) r) _ _ (λ c r.
+    next_next (taken 2 (has m 3) r) _ H ∙ next_same (taken 2 (has m 3) r) _ _ (λ d r.
+    next_next (taken 2 (has m 4) r) _ H))))
+
+pub node_means : (l : Limits) (bs : List ℕ) → node l bs ≡ next (any_node bs) (λ n r. check (fitting l n.node) (got n r))
+node_means l bs =
+    sym (next_next (byte bs) _ _ ∙ next_same (byte bs) _ _ (λ m r. next_check (nat_lt m 32) (parts m r) _ ∙ ap (check (nat_lt m 32)) (parts_mean l m r)))

@@ -1,5 +1,5 @@
 -- Reading from the front of a list of bytes: what each method of the reader answers.
-use Rattle.std.specs.Prelude.{ℕ, zero, suc, ◌+◌, ◌*◌, ◌^◌, ◌≤◌, Bool, true, false, cond, not, ◌&&◌, List, [], ◌∷◌, take, Some, None, Option, ◌==◌, nat_le, nat_lt}
+use Rattle.std.specs.Prelude.{◌≡◌, ℕ, zero, suc, ◌+◌, ◌*◌, ◌^◌, ◌<◌, ◌≤◌, Bool, true, false, cond, not, ◌&&◌, List, [], ◌∷◌, length, take, drop, Some, None, Option, ◌==◌, nat_le, nat_lt, slice_index}
 use Rattle.graph.specs.declared.node.Node.{Node}
 use Rattle.graph.specs.declared.node.Ranked.{Ranked}
 use Rattle.graph.specs.Sets.{has}
@@ -26,18 +26,25 @@ abbrev pub given : {A : Type 0} → Option A → List ℕ → Got A
 given None r = lost
 given (Some a) r = got a r
 
--- the same, where the items have been put into a table, all of it or as many as the answer says
+-- the same, where the items have been put into a table, all of it
 abbrev pub filled : {A : Type 0} → Option (Unit {0}) → List A → List ℕ → Got (List A)
 filled None xs r = lost
 filled (Some _) xs r = got xs r
 
-abbrev pub fronted : {A : Type 0} → Option ℕ → List A → List ℕ → Got (List A)
-fronted None xs r = lost
-fronted (Some n) xs r = got (take n xs) r
+-- the first n bytes, where there are so many
+pub record Front (n : ℕ) (bs xs : List ℕ) : Type 0 where
+  pub are : xs ≡ take n bs
+  pub long : n ≤ length bs
+  pub bytes : (i : ℕ) → slice_index xs i < 256
 
-abbrev pub Upto : ℕ → Option ℕ → Type 0
-Upto top None = Unit {0}
-Upto top (Some n) = n ≤ top
+abbrev pub StartsWith : ℕ → List ℕ → Option (List ℕ) → Type 0
+StartsWith n bs None = length bs < n
+StartsWith n bs (Some xs) = Front n bs xs
+
+-- and the bytes that are left
+abbrev pub SplitsAt : ℕ → List ℕ → Option (List ℕ) → List ℕ → Type 0
+SplitsAt n bs None r = length bs < n
+SplitsAt n bs (Some xs) r = Front n bs xs × (r ≡ drop n bs)
 
 abbrev pub byte : List ℕ → Got ℕ
 byte [] = lost
@@ -65,10 +72,14 @@ counted top p bs = next (count top bs) (λ n r. many n p r)
 abbrev pub mask : Limits → List ℕ → Got ℕ
 mask l bs = next (number 2 0 bs) (λ m r. check (nat_lt m (2 ^ l.signals)) (got m r))
 
--- a field of k bytes that is absent, or there and not zero
+-- a field that p reads, which is absent, or there and not zero
+abbrev pub taken_by : {A : Type 0} → (List ℕ → Got A) → (A → Bool) → A → Bool → List ℕ → Got A
+taken_by p is_zero none false bs = got none bs
+taken_by p is_zero none true bs = next (p bs) (λ v r. check (not (is_zero v)) (got v r))
+
+-- the same of a number of k bytes
 abbrev pub taken : ℕ → Bool → List ℕ → Got ℕ
-taken k false bs = got 0 bs
-taken k true bs = next (number k 0 bs) (λ v r. check (not (v == 0)) (got v r))
+taken k there bs = taken_by (number k 0) (λ v. v == 0) 0 there bs
 
 -- every bit of a node stands for a line or an eventuality
 abbrev pub fitting : Limits → Node → Bool
@@ -84,6 +95,14 @@ fields l m bs =
 
 abbrev pub node : Limits → List ℕ → Got Ranked
 node l bs = next (byte bs) (λ m r. check (nat_lt m 32) (fields l m r))
+
+-- a node's fields and a node, whatever its bits stand for
+abbrev pub parts : ℕ → List ℕ → Got Ranked
+parts m bs =
+    next (taken 8 (has m 0) bs) (λ a r. next (taken 8 (has m 1) r) (λ b r. next (taken 2 (has m 2) r) (λ c r. next (taken 2 (has m 3) r) (λ d r. next (taken 2 (has m 4) r) (λ e r. got (ranked a b c d e) r)))))
+
+abbrev pub any_node : List ℕ → Got Ranked
+any_node bs = next (byte bs) (λ m r. check (nat_lt m 32) (parts m r))
 
 -- nothing is left
 abbrev pub end : List ℕ → Got (Unit {0})

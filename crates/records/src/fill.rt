@@ -1,55 +1,38 @@
-// Filling a space from a record, and seeing the claim in it.
+// Filling a space from a record: the claim that it holds is lent from the space.
 ghost use Rattle.std.specs.Prelude.{◌≡◌};
-ghost use Rattle.records.specs.Claims.{claim_of};
 ghost use Rattle.records.specs.Parsing.{record_of};
-ghost use Rattle.records.specs.Spaces.{shaped, Held, understood, HeldIf};
+ghost use Rattle.records.specs.Spaces.{understood};
 
 use crate::claim::Claim;
+use crate::kind::Kind;
 use crate::limits::Limits;
-use crate::maps::{CYCLE_ALONE, GRAPH, LEAD_AND_CYCLE};
 use crate::reader::Reader;
-use crate::shape::Shape;
 use crate::space::Space;
 
 impl Space {
     // Reads a whole record into the space.
-    pub(crate) fn fill(&mut self, bytes: &[u8], limits: Limits) -> Option<Shape>
-        ensures read { record_of limits bytes.now ≡ understood result self.new }
-        ensures held { HeldIf result }
+    pub(crate) fn fill(&mut self, bytes: &[u8], limits: Limits) -> Option<Claim<'_>>
+        ensures { record_of limits bytes.now ≡ understood result }
     {
         let mut reader = Reader::new(bytes);
-        match reader.byte()? {
-            CYCLE_ALONE => {
+        match Kind::try_from(reader.byte()?) {
+            Ok(Kind::Cycle) => {
                 let cycle = reader.list(limits, &mut self.cycle)?;
                 reader.end()?;
-                Some(Shape::Run { lead: 0, cycle })
+                Some(Claim::Run { lead: &[], cycle })
             }
-            LEAD_AND_CYCLE => {
+            Ok(Kind::LeadAndCycle) => {
                 let lead = reader.list(limits, &mut self.lead)?;
                 let cycle = reader.list(limits, &mut self.cycle)?;
                 reader.end()?;
-                Some(Shape::Run { lead, cycle })
+                Some(Claim::Run { lead, cycle })
             }
-            GRAPH => {
+            Ok(Kind::Graph) => {
                 let nodes = reader.list(limits, &mut self.nodes)?;
                 reader.end()?;
-                Some(Shape::Graph(nodes))
+                Some(Claim::Graph(nodes))
             }
-            _ => None,
-        }
-    }
-
-    // The claim of this shape that stands in the space.
-    pub(crate) fn claim(&self, shape: Shape) -> Claim<'_>
-        requires { Held shape }
-        ensures { claim_of result ≡ shaped shape self.now }
-    {
-        match shape {
-            Shape::Run { lead, cycle } => Claim::Run {
-                lead: &self.lead[..lead as usize],
-                cycle: &self.cycle[..cycle as usize],
-            },
-            Shape::Graph(nodes) => Claim::Graph(&self.nodes[..nodes as usize]),
+            Err(_) => None,
         }
     }
 }

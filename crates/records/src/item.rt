@@ -1,77 +1,49 @@
 // What a record lists: masks of positions, and nodes.
-ghost use Rattle.std.specs.Prelude.{◌≡◌, ℕ, ◌≤◌, List, length};
+ghost use Rattle.std.specs.Prelude.{◌≡◌, ◌^◌, Bool, List, ℕ, nat_lt, refl};
 ghost use Rattle.records.specs.declared.limits.Limits.{Limits};
-ghost use Rattle.records.specs.Appending.{Room, Wrote};
-ghost use Rattle.records.specs.Claims.{big, node_bytes};
-ghost use Rattle.records.specs.Parsing.{Got, given, mask, node};
-ghost use Rattle.records.specs.Puts.{length_word};
-ghost use Rattle.records.specs.NodeBytes.{length_node};
+ghost use Rattle.records.specs.Parsing.{Got, next, check, got, fitting, mask, node};
+ghost use Rattle.records.specs.NodeCodes.{node_means};
 
+use crate::coded::Coded;
 use crate::limits::Limits;
-use crate::reader::Reader;
 use crate::within::fits;
-use crate::writer::Writer;
 use graph::node::Ranked;
 
-// An item is read from its bytes and written as them: `most` of them at most.
-pub(crate) trait Item: Copy + Drop {
-    ghost parsed: { Limits → List ℕ → Got Self };
+// An item is one that is read from its bytes, and has no bit that the limits do not allow.
+pub(crate) trait Item: Coded {
+    ghost parsed_within: { Limits → List ℕ → Got Self };
 
-    ghost written: { Self → List ℕ };
+    ghost allowed: { Limits → Self → Bool };
 
-    ghost most: { ℕ };
+    // Does every bit stand for something?
+    fn is_allowed(self, limits: Limits) -> bool
+        ensures { result ≡ allowed limits self };
 
-    // The item that stands next, if it is lawful.
-    fn read(reader: &mut Reader, limits: Limits) -> Option<Self>
-        ensures { parsed limits reader.old.rest.now ≡ given result reader.new.rest.now };
-
-    // Writes the bytes of the item.
-    fn write(&self, writer: &mut Writer)
-        requires { Room writer.old most }
-        ensures { Wrote writer.old writer.new (written self.now) };
-
-    ghost short: { (item : Self) → length (written item) ≤ most };
+    ghost means: { (l : Limits) (bs : List ℕ) → parsed_within l bs ≡ next (Self.parsed bs) (λ item r. check (allowed l item) (got item r)) };
 }
 
 // The mask of a position: bit k for signal k.
 impl Item for u16 {
-    ghost parsed = { mask };
+    ghost parsed_within = { mask };
 
-    ghost written = { big 2 };
+    ghost allowed = { λ l m. nat_lt m (2 ^ l.signals) };
 
-    ghost most = { 2 };
+    ghost means = { λ l bs. refl };
 
-    ghost short = { length_word };
-
-    fn read(reader: &mut Reader, limits: Limits) -> Option<u16> {
-        let mask = reader.word()?;
-        if fits(mask.into(), limits.signals) {
-            Some(mask)
-        } else {
-            None
-        }
-    }
-
-    fn write(&self, writer: &mut Writer) {
-        writer.word(*self);
+    fn is_allowed(self, limits: Limits) -> bool {
+        fits(self.into(), limits.signals)
     }
 }
 
 // A node with its rank.
 impl Item for Ranked {
-    ghost parsed = { node };
+    ghost parsed_within = { node };
 
-    ghost written = { node_bytes };
+    ghost allowed = { λ l n. fitting l n.node };
 
-    ghost most = { 23 };
+    ghost means = { node_means };
 
-    ghost short = { length_node };
-
-    fn read(reader: &mut Reader, limits: Limits) -> Option<Ranked> {
-        reader.node(limits)
-    }
-
-    fn write(&self, writer: &mut Writer) {
-        writer.node(self);
+    fn is_allowed(self, limits: Limits) -> bool {
+        limits.allow(self.node)
     }
 }

@@ -2,26 +2,23 @@
 ghost use Rattle.std.specs.Prelude.{◌≡◌, ◌+◌, ◌*◌, ◌^◌};
 ghost use Rattle.records.specs.Claims.{low, high};
 
-// The label that has line 64 alone.
-const LINE_64: u128 = 0x1_0000_0000_0000_0000;
-
 // Lines 0 to 63.
 pub(crate) fn low(label: u128) -> u64
     ensures { result ≡ low label }
 {
-    (label % LINE_64) as u64
+    (label & u128::from(u64::MAX)) as u64
 }
 
 // The lines from 64 on.
 pub(crate) fn high(label: u128) -> u64
     ensures { result ≡ high label }
 {
-    (label / LINE_64) as u64
+    (label >> 64) as u64
 }
 
 // The label of both halves.
 pub(crate) fn joined(low: u64, high: u64) -> u128
     ensures { result ≡ high * 2 ^ 64 + low }
 {
-    u128::from(high) * LINE_64 + u128::from(low)
+    (u128::from(high) << 64) | u128::from(low)
 }

@@ -2,8 +2,6 @@
 ghost use Rattle.records.specs.Laws.{OneLayout};
 
 // A claim within the limits has one lawful record, no other claim has it, and no record is longer than the longest.
-pub fn one_layout() -> bool
+pub fn one_layout()
     ensures { OneLayout }
-{
-    true
-}
+{}

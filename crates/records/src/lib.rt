@@ -7,18 +7,17 @@
 
 pub mod claim;
 mod claim_writer;
+mod coded;
 mod fill;
 mod item;
+mod kind;
 mod label;
 pub mod laws;
 pub mod limits;
 mod list;
-mod maps;
-mod node_reader;
-mod node_writer;
+mod node;
 mod read;
 mod reader;
-mod shape;
 pub mod sizes;
 pub mod space;
 mod within;

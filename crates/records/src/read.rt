@@ -12,9 +12,6 @@ impl<'a> Claim<'a> {
         ensures answer { ReadAs limits bytes.now result }
         ensures alone { Alone limits bytes.now result }
     {
-        match space.fill(bytes, limits) {
-            Some(shape) => Ok(space.claim(shape)),
-            None => Err(Refusal::Record),
-        }
+        space.fill(bytes, limits).ok_or(Refusal::Record)
     }
 }

@@ -1,18 +1,16 @@
 // Room for what is read of a record.
-ghost use Rattle.std.specs.Prelude.{◌≡◌, length, replicate};
+ghost use Rattle.std.specs.Prelude.{◌≡◌, replicate};
 
 use crate::sizes::{CYCLE, LEAD, NODES};
 use graph::node::{Node, Ranked};
 
-// The positions of a lead-in and of a cycle, and the nodes of a graph.
+// The positions of a lead-in and of a cycle, and the nodes of a graph: as many as a record can have, since reading allocates
+// nothing.
 #[derive(Drop)]
 pub struct Space {
     pub(crate) lead: [u16; LEAD],
     pub(crate) cycle: [u16; CYCLE],
     pub(crate) nodes: [Ranked; NODES],
-    ghost leads: { length lead ≡ 1023 },
-    ghost cycles: { length cycle ≡ 1024 },
-    ghost graphs: { length nodes ≡ 1024 },
 }
 
 // What stands where no node has been read.

@@ -1,5 +1,5 @@
 // Writing the record of a claim.
-ghost use Rattle.std.specs.Prelude.{Decides};
+ghost use Rattle.std.specs.Prelude.{◌↔◌, IsTrue};
 ghost use Rattle.records.specs.Appending.{Room, Wrote};
 ghost use Rattle.records.specs.Claims.{claim_of, Counts, laid};
 ghost use Rattle.records.specs.Writing.{Written};
@@ -28,19 +28,18 @@ impl Claim<'_> {
 
     // Can a record have so many positions or nodes?
     fn is_countable(self) -> bool
-        ensures { Decides result (Counts (claim_of self.entry)) }
+        ensures { IsTrue result ↔ Counts (claim_of self.entry) }
     {
         match self {
-            Claim::Run { lead, cycle } => lead.len() <= LEAD
-                && !cycle.is_empty()
-                && cycle.len() <= CYCLE,
-            Claim::Graph(nodes) => !nodes.is_empty() && nodes.len() <= NODES,
+            Claim::Run { lead, cycle } => lead.len() <= LEAD && (1..=CYCLE).contains(&cycle.len()),
+            Claim::Graph(nodes) => (1..=NODES).contains(&nodes.len()),
         }
     }
 
     // The record of the claim.
     fn put(self, writer: &mut Writer)
-        requires { (Counts (claim_of self)) × (Room writer.old 23555) }
+        requires counts { Counts (claim_of self) }
+        requires room { Room writer.old 23555 }
         ensures { Wrote writer.old writer.new (laid (claim_of self.entry)) }
     {
         match self {

@@ -1,9 +1,11 @@
-// Writing numbers and fields, one after another.
-ghost use Rattle.std.specs.Prelude.{[], ◌∷◌};
+// Writing bytes and fields, one after another.
+ghost use Rattle.std.specs.Prelude.{[], ◌∷◌, cond, length};
 ghost use Rattle.records.specs.Appending.{Room, Wrote};
-ghost use Rattle.records.specs.Claims.{big, field};
 
-// A buffer, and the place in it where the next byte goes.
+use crate::coded::Number;
+
+// A buffer, and the place in it where the next byte goes. The caller lends the buffer whole, and the record is to stand at
+// its start: so a place in it is plainer than a slice that shrinks.
 #[derive(Drop)]
 pub(crate) struct Writer<'a> {
     pub(crate) buffer: &'a mut [u8],
@@ -11,51 +13,31 @@ pub(crate) struct Writer<'a> {
 }
 
 impl Writer<'_> {
+    // These bytes.
+    pub(crate) fn bytes(&mut self, bytes: &[u8])
+        requires { Room self.old (length bytes.now) }
+        ensures { Wrote self.old self.new bytes.now }
+    {
+        let end = self.at + bytes.len();
+        self.buffer[self.at..end].copy_from_slice(bytes);
+        self.at = end;
+    }
+
     // One byte.
     pub(crate) fn byte(&mut self, value: u8)
         requires { Room self.old 1 }
         ensures { Wrote self.old self.new (value ∷ []) }
     {
-        self.buffer[self.at] = value;
-        self.at += 1;
+        self.bytes(&[value]);
     }
 
-    // A number in two bytes, the high byte first.
-    pub(crate) fn word(&mut self, value: u16)
-        requires { Room self.old 2 }
-        ensures { Wrote self.old self.new (big 2 value) }
+    // A field, or nothing where it is zero.
+    pub(crate) fn field<T: Number>(&mut self, value: T)
+        requires { Room self.old T.most }
+        ensures { Wrote self.old self.new (cond (T.eq value T.ZERO) [] (T.written value)) }
     {
-        self.byte((value / 256) as u8);
-        self.byte((value % 256) as u8);
-    }
-
-    // A number in eight bytes, the high byte first.
-    fn long(&mut self, value: u64)
-        requires { Room self.old 8 }
-        ensures { Wrote self.old self.new (big 8 value) }
-    {
-        for i in 0..8usize {
-            self.byte(((value >> (56 - 8 * i)) % 256) as u8);
-        }
-    }
-
-    // A field of two bytes, or nothing where it is zero.
-    pub(crate) fn short_field(&mut self, value: u16)
-        requires { Room self.old 2 }
-        ensures { Wrote self.old self.new (field 2 value) }
-    {
-        if value != 0 {
-            self.word(value);
-        }
-    }
-
-    // The same of eight bytes.
-    pub(crate) fn long_field(&mut self, value: u64)
-        requires { Room self.old 8 }
-        ensures { Wrote self.old self.new (field 8 value) }
-    {
-        if value != 0 {
-            self.long(value);
+        if value != T::ZERO {
+            value.write(self);
         }
     }
 }

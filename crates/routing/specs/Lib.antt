@@ -2,4 +2,3 @@ pub mod Lines
 pub mod Commands
 pub mod Shown
 pub mod Phrases
-pub mod Tellings

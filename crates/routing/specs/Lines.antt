@@ -15,8 +15,3 @@ Cuts line w (Some t) = Unbroken w × (line ≡ w ++ (32 ∷ t))
 abbrev pub waiting : Option (List ℕ) → List (List ℕ)
 waiting None = []
 waiting (Some xs) = words xs
-
--- one step through the names: the first of those that wait, until none does
-abbrev pub Steps : Option (List ℕ) → Option (List ℕ) → Option (List ℕ) → Type 0
-Steps o None p = waiting o ≡ []
-Steps o (Some w) p = waiting o ≡ w ∷ waiting p

@@ -16,10 +16,9 @@ pub struct Caret(pub usize);
 fn glyph(b: u8) -> char
     ensures { result ≡ glyph b }
 {
-    if b >= b' ' && b <= b'~' {
-        b as char
-    } else {
-        '?'
+    match b {
+        b' '..=b'~' => b as char,
+        _ => '?',
     }
 }
 

@@ -1,31 +1,28 @@
 // What a line of input asks for.
-ghost use Rattle.routing.specs.Commands.{Named, About, Asks};
+ghost use Rattle.routing.specs.Commands.{Named, Asks};
 
 use crate::words::cut;
 
-// The commands by their names. A new one has its variant here and in `Command`.
+// The commands by their names.
 #[derive(Clone, Copy)]
 pub enum Verb {
+    // take a list of signal names
     Signals,
+    // read a rule
     Rule,
+    // make the normal table of keeping a rule
     Table,
+    // make the normal table of keeping one rule and breaking another, by both texts with a slash between
     Question,
+    // explore the graph of keeping a rule; `dot` after its text asks for a drawing
     Graph,
 }
 
-// What the clerk asks for.
+// What the clerk asks for: a command, and the bytes that it is about.
 #[derive(Clone, Copy)]
-pub enum Command<'a> {
-    // take a list of signal names, by its bytes
-    Signals(&'a [u8]),
-    // read a rule, by its text
-    Rule(&'a [u8]),
-    // make the normal table of keeping a rule, by its text
-    Table(&'a [u8]),
-    // make the normal table of keeping one rule and breaking another, by both texts with a slash between
-    Question(&'a [u8]),
-    // explore the graph of keeping a rule, by its text; `dot` after it asks for a drawing
-    Graph(&'a [u8]),
+pub struct Command<'a> {
+    pub verb: Verb,
+    pub subject: &'a [u8],
 }
 
 // A line, by what is to be done about it.
@@ -55,26 +52,25 @@ impl Verb {
         }
     }
 
-    // The command about these bytes.
-    fn about<'a>(self, rest: &'a [u8]) -> Command<'a>
-        ensures { About self rest.now result }
-    {
+    // What to write after the name of the command.
+    pub fn wanted(self) -> &'static str {
         match self {
-            Verb::Signals => Command::Signals(rest),
-            Verb::Rule => Command::Rule(rest),
-            Verb::Table => Command::Table(rest),
-            Verb::Question => Command::Question(rest),
-            Verb::Graph => Command::Graph(rest),
+            Verb::Signals => "after 'signals' write a blank and the names.",
+            Verb::Rule => "after 'rule' write a blank and the rule's text.",
+            Verb::Table => "after 'table' write a blank and the rule's text.",
+            Verb::Question =>
+                "after 'question' write a blank, the text to keep, a slash, and the text to break.",
+            Verb::Graph => "after 'graph' write a blank and the rule's text.",
         }
     }
 }
 
-impl<'a> Line<'a> {
-    // A command's name ends at the first blank, and all after that blank is what it is about.
-    pub fn read(line: &'a [u8]) -> Line<'a>
-        ensures { Asks line.now result }
-    {
-        if line.len() == 0 || line[0] == b'#' {
+// A command's name ends at the first blank, and all after that blank is what it is about.
+impl<'a> From<&'a [u8]> for Line<'a> {
+    ghost from_gives = { λ line r. Asks line.now r };
+
+    fn from(line: &'a [u8]) -> Line<'a> {
+        if line.is_empty() || line.starts_with(b"#") {
             return Line::Blank;
         }
         let (word, rest) = cut(line);
@@ -82,7 +78,7 @@ impl<'a> Line<'a> {
             return Line::Unknown(word);
         };
         match rest {
-            Some(rest) => Line::Order(verb.about(rest)),
+            Some(subject) => Line::Order(Command { verb, subject }),
             None => Line::Short(verb),
         }
     }

@@ -1,10 +1,11 @@
 // The clerk's program: reads commands, a line each, and says in plain sentences what it does.
 //
-// `command` tells what a line asks for, `desk` carries it out and remembers; `formula`, `refused`,
-// `words` and `bytes` show formulas, refusals, names and bytes.
+// `command` tells what a line asks for, `desk` remembers what was given, and `clerk`, `drawing` and `judgement` say what
+// comes of it; `formula`, `table`, `nodes`, `run`, `refused`, `words` and `bytes` show what is told.
 #![tactic(auto)]
 
 mod bytes;
+mod clerk;
 mod command;
 mod desk;
 mod drawing;
@@ -14,6 +15,7 @@ mod nodes;
 mod refused;
 mod run;
 mod table;
+mod texts;
 mod words;
 
 use desk::Desk;

@@ -1,11 +1,15 @@
 // A run as a table: a row for each signal, a column for each position, brackets around the cycle.
 use crate::bytes::Shown;
 use crate::words::Names;
-use graph::sets::has16;
+use graph::sets::has;
 use std::fmt;
+use std::ops::Range;
 
 // So many positions are shown.
 pub const SHOWN_POSITIONS: usize = 24;
+
+// A name and the blanks after it are as wide as the word `position` and one blank more.
+const COLUMN: usize = 9;
 
 // A run over a list of names.
 #[derive(Clone, Copy)]
@@ -17,38 +21,29 @@ pub struct RunTable<'a> {
 
 impl fmt::Display for RunTable<'_> {
     fn fmt<W: fmt::Write>(&self, f: &mut fmt::Formatter<W>) -> fmt::Result {
+        let lead = self.lead.len();
+        let length = lead.saturating_add(self.cycle.len());
         f.write_str("\n  position ")?;
-        numbers(0, self.lead.len(), f)?;
+        numbers(0..lead, f)?;
         f.write_str(" [")?;
-        numbers(self.lead.len(), self.cycle.len(), f)?;
+        numbers(lead..length, f)?;
         f.write_str(" ]")?;
-        let mut signal = 0u8;
-        for name in Names::of(self.list) {
+        for (signal, name) in (0..=u8::MAX).zip(Names::of(self.list)) {
             let shown = Shown(name);
             write!(f, "\n  {shown}")?;
-            pad(name.len(), f)?;
+            f.write_repeated(" ", COLUMN.saturating_sub(name.len()))?;
             states(self.lead, signal, f)?;
             f.write_str(" [")?;
             states(self.cycle, signal, f)?;
             f.write_str(" ]")?;
-            signal = signal.saturating_add(1);
         }
         Ok(())
     }
 }
 
-// Blanks after a name, so that the columns stand under the word `position`.
-fn pad<W: fmt::Write>(len: usize, f: &mut fmt::Formatter<W>) -> fmt::Result {
-    for _ in len..9 {
-        f.write_str(" ")?;
-    }
-    Ok(())
-}
-
-// Writes the numbers of so many positions, from the first on.
-fn numbers<W: fmt::Write>(first: usize, count: usize, f: &mut fmt::Formatter<W>) -> fmt::Result {
-    for i in 0..count {
-        let number = first.saturating_add(i);
+// Writes the numbers of positions.
+fn numbers<W: fmt::Write>(positions: Range<usize>, f: &mut fmt::Formatter<W>) -> fmt::Result {
+    for number in positions {
         write!(f, " {number:>3}")?;
     }
     Ok(())
@@ -57,7 +52,7 @@ fn numbers<W: fmt::Write>(first: usize, count: usize, f: &mut fmt::Formatter<W>)
 // Writes whether a signal is on, at each position.
 fn states<W: fmt::Write>(positions: &[u16], signal: u8, f: &mut fmt::Formatter<W>) -> fmt::Result {
     for position in positions {
-        f.write_str(if has16(*position, signal) {
+        f.write_str(if has(*position, signal) {
             "  on"
         } else {
             "   ."

@@ -1,4 +1,4 @@
-// A normal table, a line each, and the two texts of a question.
+// A normal table, a line each.
 use crate::bytes::Shown;
 use crate::words::name_of;
 use std::fmt;
@@ -57,19 +57,4 @@ impl fmt::Display for Lines<'_, '_> {
         }
         Ok(())
     }
-}
-
-// The texts before and after the first slash; a blank right before it and one right after it belong to the cut.
-pub fn parted(texts: &[u8]) -> Option<(&[u8], &[u8])> {
-    for (i, b) in texts.iter().enumerate() {
-        if *b == b'/' {
-            let x = &texts[0..i];
-            let y = &texts[i + 1..];
-            return Some((
-                x.strip_suffix(b" ").unwrap_or(x),
-                y.strip_prefix(b" ").unwrap_or(y),
-            ));
-        }
-    }
-    None
 }

@@ -2,8 +2,8 @@
 ghost use Rattle.std.specs.Prelude.{◌≡◌, ℕ, ◌<◌, ◌≤◌, [], length, ◌≢◌, slice_index, slice_index_or};
 ghost use Rattle.std.specs.Option.{option_map};
 ghost use Rattle.rules.specs.Signals.{names};
-ghost use Rattle.routing.specs.Lines.{Cuts, waiting, Steps};
-ghost use Rattle.std.specs.Iterator.{at_most};
+ghost use Rattle.routing.specs.Lines.{Cuts, waiting};
+ghost use Rattle.std.specs.Iterator.{at_most, YieldsFirstRef};
 
 use crate::bytes::Shown;
 use std::fmt;
@@ -27,12 +27,7 @@ fn word_end(bytes: &[u8]) -> usize
     ensures word { (k : ℕ) → k < result → slice_index bytes.now k ≢ 32 }
     ensures blank { result < length bytes.now → slice_index bytes.now result ≡ 32 }
 {
-    for (i, b) in bytes.iter().enumerate() {
-        if *b == b' ' {
-            return i;
-        }
-    }
-    bytes.len()
+    bytes.iter().position(|b| *b == b' ').unwrap_or(bytes.len())
 }
 
 // Goes through the names of a list, in their order.
@@ -47,10 +42,8 @@ impl<'a> Names<'a> {
     pub fn of(list: &'a [u8]) -> Names<'a>
         ensures { waiting (option_map (λ x. x.now) result.rest) ≡ names list.now }
     {
-        if list.len() == 0 {
-            Names { rest: None }
-        } else {
-            Names { rest: Some(list) }
+        Names {
+            rest: Some(list).filter(|list| !list.is_empty()),
         }
     }
 }
@@ -60,17 +53,12 @@ impl<'a> Iterator for Names<'a> {
 
     ghost remaining = { λ s. at_most (length (waiting (option_map (λ y. y.now) s.rest))) };
 
-    ghost next_gives = { λ s r t. Steps (option_map (λ y. y.now) s.rest) (option_map (λ y. y.now) r) (option_map (λ y. y.now) t.rest) };
+    ghost next_gives = { YieldsFirstRef (λ s. waiting (option_map (λ y. y.now) s.rest)) };
 
     fn next(&mut self) -> Option<&'a [u8]> {
-        match self.rest {
-            None => None,
-            Some(list) => {
-                let (name, rest) = cut(list);
-                self.rest = rest;
-                Some(name)
-            }
-        }
+        let (name, rest) = cut(self.rest?);
+        self.rest = rest;
+        Some(name)
     }
 }
 
@@ -78,14 +66,7 @@ impl<'a> Iterator for Names<'a> {
 pub fn name_of(list: &[u8], number: u8) -> &[u8]
     ensures { result.now ≡ slice_index_or (names list.now) number [] }
 {
-    let mut before = number;
-    for name in Names::of(list) {
-        if before == 0 {
-            return name;
-        }
-        before -= 1;
-    }
-    &[]
+    Names::of(list).nth(number.into()).unwrap_or(&[])
 }
 
 // Each name of a list with its number.
@@ -94,14 +75,12 @@ pub struct Numbered<'a>(pub &'a [u8]);
 
 impl fmt::Display for Numbered<'_> {
     fn fmt<W: fmt::Write>(&self, f: &mut fmt::Formatter<W>) -> fmt::Result {
-        let mut number = 0u8;
-        for name in Names::of(self.0) {
+        for (number, name) in (0..=u8::MAX).zip(Names::of(self.0)) {
             if number > 0 {
                 f.write_str(", ")?;
             }
             let shown = Shown(name);
             write!(f, "{number} {shown}")?;
-            number = number.saturating_add(1);
         }
         Ok(())
     }

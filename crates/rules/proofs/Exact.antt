@@ -4,15 +4,18 @@ use Rattle.rules.specs.declared.refusal.FaultKind.{FaultKind}
 use Rattle.rules.specs.declared.refusal.Refusal.{Refusal}
 use Rattle.rules.specs.declared.syntax.Entry.{Entry}
 use Rattle.rules.specs.declared.arena.Rule.{Rule}
+use Rattle.rules.specs.declared.reader.Reader.{Reader}
 use Rattle.rules.specs.Refusals.{refusal_of}
 use Rattle.rules.specs.Formula.{Formula, spell}
-use Rattle.rules.specs.Entries.{meaning}
+use Rattle.rules.specs.Entries.{meaning, last_meaning}
 use Rattle.rules.specs.Text.{Lexed, done, lexed}
-use Rattle.rules.specs.Owed.{formula, judge, Splits}
+use Rattle.rules.specs.Owed.{formula, judge, said, Splits}
+use Rattle.rules.specs.Words.{ahead}
 use Rattle.rules.specs.Rules.{Formed, formula_of, Spells, Faults, ReadAs, Alone, Divides, Grammar}
 use Rattle.rules.proofs.Firstness.{fault_first, first_only}
+use Rattle.rules.proofs.Forming.{after_formed}
 use Rattle.rules.proofs.Pinned.{reads_determined}
-use Rattle.rules.proofs.Judging.{owed_exact, complete, unique, splits_said, splits_judge}
+use Rattle.rules.proofs.Judging.{owed_exact, complete, unique, splits_said}
 use Rattle.rules.proofs.Truth.{run_decided}
 
 pub grammar_stands : Grammar
@@ -26,7 +29,7 @@ no_fault : (ns text : List ℕ) (f : Formula) (k : FaultKind) (o : ℕ) {P : Typ
 no_fault ns text f k o a b =
     let e = complete (length text) (lexed ns text 0) f a in
     let g = first_only (length text) (lexed ns text 0) k o b in
-    let z : ◌≡◌ {A = ℕ} 0 1 = cc in absurd (omega arith)
+    absurd cc
 
 one_fault : (ns text : List ℕ) (k j : FaultKind) (o p : ℕ) → Faults ns text k o → Faults ns text j p → refusal_of k o ≡ refusal_of j p
 one_fault ns text k j o p a b =
@@ -52,12 +55,12 @@ divides (Ok r) = λ w. run_decided (formula_of r) w 0
 divides (Err e) = tt
 
 -- a formula, and then the end
-pub spells_whole : (ns text : List ℕ) (j : ℕ) (xs : List Entry) (n : ℕ) (ys : List Entry) (m r : ℕ) → Formed ns text 0 j xs n ys m r → lexed ns text j ≡ done → Spells ns text (meaning ys m (m - 1))
-spells_whole ns text j xs n ys m r f e =
-    let k : r ≡ m - 1 = omega (arith, f.last) in
-    let d : Splits (lexed ns text 0) (spell (meaning ys m r)) done = subst (λ (x : Lexed). Splits (lexed ns text 0) (spell (meaning ys m r)) x) e f.spelled in
-    subst (λ (x : ℕ). Spells ns text (meaning ys m x)) k (splits_said (spell (meaning ys m r)) (lexed ns text 0) d)
+pub spells_whole : (r s : Reader) (xs ys : List Entry) (i : ℕ) → Formed r s xs ys i → ahead s ≡ done → said (ahead r) ≡ Some (spell (last_meaning ys))
+spells_whole r s xs ys i f e =
+    let k : i ≡ length ys - 1 = omega (arith, f.last) in
+    let d : Splits (ahead r) (spell (meaning ys (length ys) i)) done = subst (λ (x : Lexed). Splits (ahead r) (spell (meaning ys (length ys) i)) x) e f.spelled in
+    splits_said (spell (meaning ys (length ys) i)) (ahead r) d ∙ ap (λ (n : ℕ). Some (spell (meaning ys (length ys) n))) k
 
 -- a formula, and then more
-pub judged_after : (ns text : List ℕ) (j : ℕ) (xs : List Entry) (n : ℕ) (ys : List Entry) (m r : ℕ) (l : Lexed) → Formed ns text 0 j xs n ys m r → lexed ns text j ≡ l → judge (length text) (lexed ns text 0) (formula ∷ []) ≡ judge (length text) l []
-judged_after ns text j xs n ys m r l f e = splits_judge (length text) (meaning ys m r) _ _ [] f.spelled ∙ ap (λ (x : Lexed). judge (length text) x []) e
+pub judged_after : (n : ℕ) (r s : Reader) (xs ys : List Entry) (i : ℕ) (l : Lexed) → Formed r s xs ys i → ahead s ≡ l → judge n (ahead r) (formula ∷ []) ≡ judge n l []
+judged_after n r s xs ys i l f e = after_formed n r s xs ys i [] f ∙ ap (λ (x : Lexed). judge n x []) e

@@ -1,4 +1,4 @@
-use Rattle.std.proofs.Common.{◌≡◌, ℕ, List, [], ◌∷◌, ◌++◌, Some, None, Option, sym, refl, ap, ◌∙◌, subst, append_assoc, append-nil, arith}
+use Rattle.std.proofs.Common.{◌≡◌, ℕ, List, [], ◌∷◌, ◌++◌, Some, None, Option, sym, refl, ap, ◌∙◌, subst, append_assoc, append-nil}
 use Rattle.rules.specs.declared.refusal.FaultKind.{FaultKind}
 use Rattle.rules.specs.declared.refusal.FaultKind.TheVariants.{Form as Misplaced}
 use Rattle.rules.specs.declared.syntax.Atom.{Atom}
@@ -19,33 +19,30 @@ abbrev After : Owed → Word → List Owed → List Word → Option (List Owed) 
 After x w s vs None = Meets (x ∷ s) (w ∷ vs) → ⊥
 After x w s vs (Some new) = (Meets (x ∷ s) (w ∷ vs) → Meets (new ++ s) vs) × (Meets (new ++ s) vs → Meets (x ∷ s) (w ∷ vs))
 
-differ : {P : Type 0} (v w : Word) (us vs : List Word) → v ∷ us ≡ w ∷ vs → (v ≡ w → ⊥) → P
-differ v w us vs e n = let d : v ≡ w = cc in absurd (n d)
-
 atom_in : (a : Atom) (s : List Owed) (vs : List Word) (f : Formula) (us : List Word) → Leaf a ∷ vs ≡ spell f ++ us → us ≡ vs
 atom_in a s vs (atom b) us e = cc
-atom_in a s vs (unary u f) us e = let z : ◌≡◌ {A = ℕ} 0 1 = cc in absurd (omega arith)
-atom_in a s vs (binary b f g) us e = let z : ◌≡◌ {A = ℕ} 0 1 = cc in absurd (omega arith)
+atom_in a s vs (unary u f) us e = absurd cc
+atom_in a s vs (binary b f g) us e = absurd cc
 
 before_in : (u : Unary) (vs : List Word) (f : Formula) (us : List Word) → Prefix u ∷ vs ≡ spell f ++ us → (g : Formula) × (vs ≡ spell g ++ us)
-before_in u vs (atom b) us e = let z : ◌≡◌ {A = ℕ} 0 1 = cc in absurd (omega arith)
+before_in u vs (atom b) us e = absurd cc
 before_in u vs (unary v f) us e = (f, cc)
-before_in u vs (binary b f g) us e = let z : ◌≡◌ {A = ℕ} 0 1 = cc in absurd (omega arith)
+before_in u vs (binary b f g) us e = absurd cc
 
 opening_in : (vs : List Word) (f : Formula) (us : List Word) → Open ∷ vs ≡ spell f ++ us → (g : Formula) × (b : Binary) × (h : Formula) × (vs ≡ spell g ++ (Infix b ∷ (spell h ++ (Close ∷ us))))
-opening_in vs (atom b) us e = let z : ◌≡◌ {A = ℕ} 0 1 = cc in absurd (omega arith)
-opening_in vs (unary v f) us e = let z : ◌≡◌ {A = ℕ} 0 1 = cc in absurd (omega arith)
+opening_in vs (atom b) us e = absurd cc
+opening_in vs (unary v f) us e = absurd cc
 opening_in vs (binary b f g) us e = let t = e ∙ spelled_two b f g us in (f, b, g, cc)
 
 between_in : (b : Binary) (vs : List Word) (f : Formula) (us : List Word) → Infix b ∷ vs ≡ spell f ++ us → ⊥
-between_in b vs (atom c) us e = let z : ◌≡◌ {A = ℕ} 0 1 = cc in omega arith
-between_in b vs (unary v f) us e = let z : ◌≡◌ {A = ℕ} 0 1 = cc in omega arith
-between_in b vs (binary c f g) us e = let z : ◌≡◌ {A = ℕ} 0 1 = cc in omega arith
+between_in b vs (atom c) us e = cc
+between_in b vs (unary v f) us e = cc
+between_in b vs (binary c f g) us e = cc
 
 closing_in : (vs : List Word) (f : Formula) (us : List Word) → Close ∷ vs ≡ spell f ++ us → ⊥
-closing_in vs (atom c) us e = let z : ◌≡◌ {A = ℕ} 0 1 = cc in omega arith
-closing_in vs (unary v f) us e = let z : ◌≡◌ {A = ℕ} 0 1 = cc in omega arith
-closing_in vs (binary c f g) us e = let z : ◌≡◌ {A = ℕ} 0 1 = cc in omega arith
+closing_in vs (atom c) us e = cc
+closing_in vs (unary v f) us e = cc
+closing_in vs (binary c f g) us e = cc
 
 after : (x : Owed) (w : Word) (s : List Owed) (vs : List Word) → After x w s vs (meets x w)
 after formula (Leaf a) s vs =
@@ -61,15 +58,15 @@ after formula Open s vs = (
       (binary b f g, us, ap (λ (ws : List Word). Open ∷ ws) z ∙ sym (spelled_two b f g us), h)),
 )
 after formula Close s vs = λ (f, us, e, h). closing_in vs f us e
-after sign (Leaf a) s vs = λ (b, us, e, h). let z : ◌≡◌ {A = ℕ} 0 1 = cc in omega arith
-after sign (Prefix u) s vs = λ (b, us, e, h). let z : ◌≡◌ {A = ℕ} 0 1 = cc in omega arith
+after sign (Leaf a) s vs = λ (b, us, e, h). cc
+after sign (Prefix u) s vs = λ (b, us, e, h). cc
 after sign (Infix c) s vs = ((λ (b, us, e, h). let d : us ≡ vs = cc in subst (λ (ws : List Word). Meets s ws) d h), (λ h. (c, vs, refl, h)))
-after sign Open s vs = λ (b, us, e, h). let z : ◌≡◌ {A = ℕ} 0 1 = cc in omega arith
-after sign Close s vs = λ (b, us, e, h). let z : ◌≡◌ {A = ℕ} 0 1 = cc in omega arith
-after bracket (Leaf a) s vs = λ (us, e, h). let z : ◌≡◌ {A = ℕ} 0 1 = cc in omega arith
-after bracket (Prefix u) s vs = λ (us, e, h). let z : ◌≡◌ {A = ℕ} 0 1 = cc in omega arith
-after bracket (Infix c) s vs = λ (us, e, h). let z : ◌≡◌ {A = ℕ} 0 1 = cc in omega arith
-after bracket Open s vs = λ (us, e, h). let z : ◌≡◌ {A = ℕ} 0 1 = cc in omega arith
+after sign Open s vs = λ (b, us, e, h). cc
+after sign Close s vs = λ (b, us, e, h). cc
+after bracket (Leaf a) s vs = λ (us, e, h). cc
+after bracket (Prefix u) s vs = λ (us, e, h). cc
+after bracket (Infix c) s vs = λ (us, e, h). cc
+after bracket Open s vs = λ (us, e, h). cc
 after bracket Close s vs = ((λ (us, e, h). let d : us ≡ vs = cc in subst (λ (ws : List Word). Meets s ws) d h), (λ h. (vs, refl, h)))
 
 -- whatever is owed can be met, and not by nothing
@@ -80,14 +77,14 @@ can (sign ∷ s) = let i = can s in (Infix And ∷ i.0, (And, i.0, refl, i.1))
 can (bracket ∷ s) = let i = can s in (Close ∷ i.0, (i.0, refl, i.1))
 
 spelled_some : (f : Formula) (us : List Word) → [] ≡ spell f ++ us → ⊥
-spelled_some (atom a) us e = let z : ◌≡◌ {A = ℕ} 0 1 = cc in omega arith
-spelled_some (unary u f) us e = let z : ◌≡◌ {A = ℕ} 0 1 = cc in omega arith
-spelled_some (binary b f g) us e = let z : ◌≡◌ {A = ℕ} 0 1 = cc in omega arith
+spelled_some (atom a) us e = cc
+spelled_some (unary u f) us e = cc
+spelled_some (binary b f g) us e = cc
 
 owes : (x : Owed) (s : List Owed) → Meets (x ∷ s) [] → ⊥
 owes formula s (f, us, e, h) = spelled_some f us e
-owes sign s (b, us, e, h) = let z : ◌≡◌ {A = ℕ} 0 1 = cc in omega arith
-owes bracket s (us, e, h) = let z : ◌≡◌ {A = ℕ} 0 1 = cc in omega arith
+owes sign s (b, us, e, h) = cc
+owes bracket s (us, e, h) = cc
 
 -- after the words ws exactly s is owed
 record Owes (ws : List Word) (s : List Owed) : Type 0 where
@@ -131,11 +128,11 @@ step n p w l x s ws k o h rec (Some new) a g =
     (w ∷ i.0, i.1, (p, l, refl, i.2), subst (λ (vs : List Word). Begins vs) q i.3, subst (λ (vs : List Word). Cause n vs i.1 k o) q i.4)
 
 first : (n : ℕ) (l : Lexed) (s : List Owed) (ws : List Word) (k : FaultKind) (o : ℕ) → Owes ws s → judge n l s ≡ refused k o → Found n l ws k o
-first n done [] ws k o h e = let z : ◌≡◌ {A = ℕ} 0 1 = cc in absurd (omega arith)
+first n done [] ws k o h e = absurd cc
 first n done (x ∷ s) ws k o h e = here n done ws (x ∷ s) k o h (cc, cc, λ f g. owes x s (h.all [] f (append-nil ws ∙ g)))
 first n (stop j p) [] ws k o h e = here n (stop j p) ws [] k o h (cc, cc)
 first n (stop j p) (x ∷ s) ws k o h e = here n (stop j p) ws (x ∷ s) k o h (cc, cc)
-first n (word p w l) [] ws k o h e = here n (word p w l) ws [] k o h (cc, cc, λ us f g. let d = h.all (w ∷ us) f g in let z : ◌≡◌ {A = ℕ} 0 1 = cc in omega arith)
+first n (word p w l) [] ws k o h e = here n (word p w l) ws [] k o h (cc, cc, λ us f g. let d = h.all (w ∷ us) f g in cc)
 first n (word p w l) (x ∷ s) ws k o h e = step n p w l x s ws k o h (λ t us hh g. first n l t us k o hh g) (meets x w) (after x w s) e
 
 pub fault_first : FaultFirst
@@ -175,7 +172,7 @@ later n [] l rest s pre k o h e b c =
     ap (λ (z : Lexed). judge n z s) e ∙ at_once n rest s pre k o h (subst (λ (ws : List Word). Cause n ws rest k o) (append-nil pre) c)
 later n (w ∷ us) l rest [] pre k o h (p, m, e, g) (vs, f, d) c =
     let q = h.all (w ∷ (us ++ vs)) f (sym (append_assoc pre (w ∷ us) vs) ∙ d) in
-    let z : ◌≡◌ {A = ℕ} 0 1 = cc in absurd (omega arith)
+    absurd cc
 later n (w ∷ us) l rest (x ∷ s) pre k o h (p, m, e, g) b c =
     let q = sym (one_more pre us w) in
     ap (λ (z : Lexed). judge n z (x ∷ s)) e

@@ -1,7 +1,10 @@
-use Rattle.std.proofs.Common.{◌≡◌, ℕ, ◌+◌, ◌<◌, ◌≤◌, List, ◌∷◌, length, take, set, Some, Ok, Option, sym, refl, ap, ◌∙◌, subst, arith}
-use Rattle.std.proofs.lemmas.List.{take-take, take-set-le}
+use Rattle.std.proofs.Common.{◌≡◌, ℕ, ◌+◌, ◌≤◌, List, [], ◌∷◌, ◌++◌, length, get_or, take, sym, refl, ap, ◌∙◌, subst, arith}
+use Rattle.std.proofs.Math.Seq.{take-length}
+use Rattle.std.proofs.lemmas.List.{take-take, take-append-le, length-take, length_push}
+use Rattle.rules.specs.declared.reader.Reader.{Reader}
 use Rattle.rules.specs.declared.refusal.Fault.{Fault}
 use Rattle.rules.specs.declared.syntax.Atom.{Atom}
+use Rattle.rules.specs.declared.syntax.Atom.TheVariants.{True}
 use Rattle.rules.specs.declared.syntax.Unary.{Unary}
 use Rattle.rules.specs.declared.syntax.Binary.{Binary}
 use Rattle.rules.specs.declared.syntax.Word.{Word}
@@ -9,91 +12,116 @@ use Rattle.rules.specs.declared.syntax.Word.TheVariants.{Leaf, Prefix, Infix, Op
 use Rattle.rules.specs.declared.syntax.Entry.{Entry}
 use Rattle.rules.specs.declared.syntax.Entry.TheVariants.{Leaf as Leaf', One, Two}
 use Rattle.rules.specs.Formula.{Formula, atom, unary, binary, spell, size}
-use Rattle.rules.specs.Entries.{meaning}
+use Rattle.rules.specs.Entries.{build, meaning}
 use Rattle.rules.specs.Text.{Lexed, lexed}
-use Rattle.rules.specs.Owed.{formula, sign, bracket, judge, Splits}
-use Rattle.rules.specs.Words.{Goes, Hears, Refuses}
+use Rattle.rules.specs.Owed.{Owed, formula, sign, bracket, Verdict, judge, refused, Splits}
+use Rattle.rules.specs.Words.{ReadsOn, ahead, Goes, Refuses}
 use Rattle.rules.specs.Rules.{Formed}
-use Rattle.rules.proofs.Growing.{meaning_new, meaning_kept}
+use Rattle.rules.proofs.Growing.{meaning_push, meaning_all, meaning_older}
 use Rattle.rules.proofs.Judging.{splits_judge, splits_join}
 
-pub moved : {a b c d : List ℕ} (P : List ℕ → List ℕ → Type 0) → a ≡ b → c ≡ d → P a c → P b d
-moved {a} {b} {c} {d} P e f h = subst (λ (x : List ℕ). P b x) f (subst (λ (x : List ℕ). P x c) e h)
+pub reads_on : (r s t : Reader) → ReadsOn r s → ReadsOn s t → ReadsOn r t
+reads_on r s t a b = record { list = b.list ∙ a.list; text = b.text ∙ a.text }
 
-pub word_at : (ns text : List ℕ) (i j : ℕ) (x : Option (ℕ × Word)) (o : ℕ) (p q : Word) → x ≡ Some (o, p) → p ≡ q → Hears ns text i (Ok x) j → Goes ns text i o q j
-word_at ns text i j x o p q e g h =
-    let a : Goes ns text i o p j = subst (λ (y : Option (ℕ × Word)). Hears ns text i (Ok y) j) e h in
-    subst (λ (y : Word). Goes ns text i o y j) g a
+-- what a reader refuses it refuses for each that reads on in its text
+refuses_at : (r s : Reader) (x : Owed) (t : List Owed) (f : Fault) → ReadsOn r s → Refuses s x f → judge (length r.text.now) (ahead s) (x ∷ t) ≡ refused f.kind f.offset
+refuses_at r s x t f o h = ap (λ (ys : List ℕ). judge (length ys) (ahead s) (x ∷ t)) (sym o.text) ∙ h t
 
-pub pushed : (ns text : List ℕ) (i j : ℕ) (xs : List Entry) (n : ℕ) (zs ys : List Entry) (q m r : ℕ) → ys ≡ zs → m ≡ q + 1 → r ≡ q → Formed ns text i j xs n zs (q + 1) q → Formed ns text i j xs n ys m r
-pushed ns text i j xs n zs ys q m r a b c h =
-    subst (λ (k : List Entry). Formed ns text i j xs n k m r) (sym a) (subst (λ (k : ℕ). Formed ns text i j xs n zs k r) (sym b) (subst (λ (k : ℕ). Formed ns text i j xs n zs (q + 1) k) (sym c) h))
+pub heard_as : (r s : Reader) (p : ℕ × Word) (w : Word) → p.1 ≡ w → Goes r p.0 p.1 s → Goes r p.0 w s
+heard_as r s p w e h = subst (λ (x : Word). Goes r p.0 x s) e h
 
-spelled_as : (ns text : List ℕ) (i j : ℕ) (f g : Formula) → f ≡ g → Splits (lexed ns text i) (spell g) (lexed ns text j) → Splits (lexed ns text i) (spell f) (lexed ns text j)
-spelled_as ns text i j f g e h = subst (λ (x : Formula). Splits (lexed ns text i) (spell x) (lexed ns text j)) (sym e) h
+spelled_as : (r s : Reader) (f g : Formula) → f ≡ g → Splits (ahead r) (spell g) (ahead s) → Splits (ahead r) (spell f) (ahead s)
+spelled_as r s f g e h = subst (λ (x : Formula). Splits (ahead r) (spell x) (ahead s)) (sym e) h
 
-pub formed_leaf : (ns text : List ℕ) (i j o : ℕ) (xs : List Entry) (n : ℕ) (a : Atom) → Goes ns text i o (Leaf a) j → n < length xs → Formed ns text i j xs n (set xs n (Leaf' a)) (n + 1) n
-formed_leaf ns text i j o xs n a w h = record {
-  last = refl;
-  grown = ap (λ (f : Formula). n + size f) (sym (meaning_new xs n (Leaf' a) h));
-  kept = take-set-le n xs n (Leaf' a) (omega arith);
-  few = omega (arith, w.moves);
-  spelled = spelled_as ns text i j _ (atom a) (meaning_new xs n (Leaf' a) h) (o, lexed ns text j, w.says, refl);
-}
+-- the entries so far stay in front
+kept_push : (xs ys zs : List Entry) (v : Entry) → take (length xs) ys ≡ xs → zs ≡ ys ++ v ∷ [] → take (length xs) zs ≡ xs
+kept_push xs ys zs v e p =
+    let le : length xs ≤ length ys = omega (arith, ap length e, length-take (length xs) ys) in
+    ap (take (length xs)) p ∙ take-append-le (length xs) ys (v ∷ []) le ∙ e
 
-pub formed_one : (ns text : List ℕ) (i k j o : ℕ) (xs : List Entry) (n : ℕ) (ys : List Entry) (m r : ℕ) (u : Unary) → Goes ns text i o (Prefix u) k → Formed ns text k j xs n ys m r → m < length ys → Formed ns text i j xs n (set ys m (One u r)) (m + 1) m
-formed_one ns text i k j o xs n ys m r u w f h = record {
-  last = refl;
-  grown = omega (arith, f.grown, ap size (meaning_new ys m (One u r) h));
-  kept = take-set-le n ys m (One u r) (omega (arith, f.grown)) ∙ f.kept;
-  few = omega (arith, w.moves, f.few);
-  spelled = spelled_as ns text i j _ (unary u (meaning ys m r)) (meaning_new ys m (One u r) h) (o, lexed ns text k, w.says, f.spelled);
-}
+longer : (xs ys : List Entry) (v : Entry) → ys ≡ xs ++ v ∷ [] → length ys ≡ length xs + 1
+longer xs ys v e = ap length e ∙ length_push xs v
 
-pub formed_two : (ns text : List ℕ) (i k k1 k2 k3 j o o1 o2 : ℕ) (xs : List Entry) (n : ℕ) (ys : List Entry) (m r : ℕ) (zs : List Entry) (q t : ℕ) (b : Binary) →
-    Goes ns text i o Open k → Formed ns text k k1 xs n ys m r → Goes ns text k1 o1 (Infix b) k2 → Formed ns text k2 k3 ys m zs q t → Goes ns text k3 o2 Close j →
-    q < length zs → Formed ns text i j xs n (set zs q (Two b r t)) (q + 1) q
-formed_two ns text i k k1 k2 k3 j o o1 o2 xs n ys m r zs q t b w f w1 g w2 h =
-    let nm : n ≤ m = omega (arith, f.grown) in
-    let mq : m ≤ q = omega (arith, g.grown) in
-    let older-r : meaning zs q r ≡ meaning ys m r = meaning_kept ys zs m q r mq (omega arith) g.kept (omega (arith, f.last)) in
-    let e : meaning (set zs q (Two b r t)) (q + 1) q ≡ binary b (meaning ys m r) (meaning zs q t) =
-    meaning_new zs q (Two b r t) h ∙ ap (λ (x : Formula). binary b x (meaning zs q t)) older-r in
+pub formed_leaf : (r s : Reader) (o : ℕ) (xs ys : List Entry) (k : ℕ) (a : Atom) → Goes r o (Leaf a) s → ys ≡ xs ++ Leaf' a ∷ [] → k ≡ length xs → Formed r s xs ys k
+formed_leaf r s o xs ys k a w e n =
+    let l = longer xs ys (Leaf' a) e in
+    let m : meaning ys (length ys) k ≡ atom a = ap (meaning ys (length ys)) n ∙ meaning_push xs ys (Leaf' a) e in
     record {
-      last = refl;
-      grown = omega (arith, f.grown, g.grown, ap size e);
-      kept = take-set-le n zs q (Two b r t) (omega arith) ∙ sym (take-take n m zs nm) ∙ ap (take n) g.kept ∙ take-take n m ys nm ∙ f.kept;
+      last = omega arith;
+      grown = omega (arith, ap size m);
+      kept = kept_push xs xs ys (Leaf' a) (take-length xs) e;
+      few = omega (arith, w.moves);
+      spelled = spelled_as r s _ (atom a) m (o, ahead s, w.says, refl);
+    }
+
+pub formed_one : (r s t : Reader) (o : ℕ) (xs ys zs : List Entry) (i k : ℕ) (u : Unary) → Goes r o (Prefix u) s → Formed s t xs ys i → zs ≡ ys ++ One u i ∷ [] → k ≡ length ys → Formed r t xs zs k
+formed_one r s t o xs ys zs i k u w f e n =
+    let l = longer ys zs (One u i) e in
+    let m : meaning zs (length zs) k ≡ unary u (meaning ys (length ys) i) =
+    ap (meaning zs (length zs)) n ∙ meaning_push ys zs (One u i) e ∙ ap (λ (g : Formula). unary u g) (meaning_all ys i) in
+    record {
+      last = omega arith;
+      grown = omega (arith, f.grown, ap size m);
+      kept = kept_push xs ys zs (One u i) f.kept e;
+      few = omega (arith, w.moves, f.few);
+      spelled = spelled_as r t _ _ m (o, ahead s, w.says, f.spelled);
+    }
+
+pub formed_two : (r s1 s2 s3 s4 t : Reader) (o o1 o2 : ℕ) (xs ys zs us : List Entry) (i j k : ℕ) (b : Binary) →
+    Goes r o Open s1 → Formed s1 s2 xs ys i → Goes s2 o1 (Infix b) s3 → Formed s3 s4 ys zs j → Goes s4 o2 Close t → us ≡ zs ++ Two b i j ∷ [] → k ≡ length zs → Formed r t xs us k
+formed_two r s1 s2 s3 s4 t o o1 o2 xs ys zs us i j k b w f w1 g w2 e n =
+    let l = longer zs us (Two b i j) e in
+    let le : length xs ≤ length ys = omega (arith, f.grown) in
+    let older : meaning zs (length zs) i ≡ meaning ys (length ys) i = meaning_older ys zs i g.kept (omega (arith, f.last)) in
+    let m : meaning us (length us) k ≡ binary b (meaning ys (length ys) i) (meaning zs (length zs) j) =
+    ap (meaning us (length us)) n ∙ meaning_push zs us (Two b i j) e
+    ∙ ap (λ (p : Formula). binary b p (get_or (build [] zs) j (atom True))) (meaning_all zs i ∙ older) ∙ ap (λ (q : Formula). binary b (meaning ys (length ys) i) q) (meaning_all zs j) in
+    let kept : take (length xs) zs ≡ xs = sym (take-take (length xs) (length ys) zs le) ∙ ap (take (length xs)) g.kept ∙ f.kept in
+    record {
+      last = omega arith;
+      grown = omega (arith, f.grown, g.grown, ap size m);
+      kept = kept_push xs zs us (Two b i j) kept e;
       few = omega (arith, w.moves, w1.moves, w2.moves, f.few, g.few);
-      spelled = spelled_as ns text i j _ _ e (
+      spelled = spelled_as r t _ _ m (
         o,
-        lexed ns text k,
+        ahead s1,
         w.says,
-        splits_join (spell (meaning ys m r)) _ _ (lexed ns text k1) _ f.spelled (
+        splits_join (spell (meaning ys (length ys) i)) _ _ (ahead s2) _ f.spelled (
           o1,
-          lexed ns text k2,
+          ahead s3,
           w1.says,
-          splits_join (spell (meaning zs q t)) _ _ (lexed ns text k3) _ g.spelled (o2, lexed ns text j, w2.says, refl),
+          splits_join (spell (meaning zs (length zs) j)) _ _ (ahead s4) _ g.spelled (o2, ahead t, w2.says, refl),
         ),
       );
     }
 
-pub refuses_sign : (ns text : List ℕ) (i k k1 o : ℕ) (xs : List Entry) (n : ℕ) (ys : List Entry) (m r : ℕ) (e : Fault) →
-    Goes ns text i o Open k → Formed ns text k k1 xs n ys m r → Refuses ns text k1 sign e → Refuses ns text i formula e
-refuses_sign ns text i k k1 o xs n ys m r e w f h = λ s.
-    ap (λ (z : Lexed). judge (length text) z (formula ∷ s)) w.says ∙ splits_judge (length text) (meaning ys m r) _ _ (sign ∷ (formula ∷ (bracket ∷ s))) f.spelled ∙ h (formula ∷ (bracket ∷ s))
+-- a bracket, a formula and a sign leave owing less
+after_open : (n : ℕ) (r s : Reader) (o : ℕ) (t : List Owed) → Goes r o Open s → judge n (ahead r) (formula ∷ t) ≡ judge n (ahead s) (formula ∷ (sign ∷ (formula ∷ (bracket ∷ t))))
+after_open n r s o t w = ap (λ (z : Lexed). judge n z (formula ∷ t)) w.says
 
-pub refuses_right : (ns text : List ℕ) (i k k1 k2 o o1 : ℕ) (xs : List Entry) (n : ℕ) (ys : List Entry) (m r : ℕ) (b : Binary) (e : Fault) →
-    Goes ns text i o Open k → Formed ns text k k1 xs n ys m r → Goes ns text k1 o1 (Infix b) k2 → Refuses ns text k2 formula e → Refuses ns text i formula e
-refuses_right ns text i k k1 k2 o o1 xs n ys m r b e w f w1 h = λ s.
-    ap (λ (z : Lexed). judge (length text) z (formula ∷ s)) w.says ∙ splits_judge (length text) (meaning ys m r) _ _ (sign ∷ (formula ∷ (bracket ∷ s))) f.spelled
-    ∙ ap (λ (z : Lexed). judge (length text) z (sign ∷ (formula ∷ (bracket ∷ s)))) w1.says ∙ h (bracket ∷ s)
+pub after_formed : (n : ℕ) (r s : Reader) (xs ys : List Entry) (i : ℕ) (t : List Owed) → Formed r s xs ys i → judge n (ahead r) (formula ∷ t) ≡ judge n (ahead s) t
+after_formed n r s xs ys i t f = splits_judge n (meaning ys (length ys) i) (ahead r) (ahead s) t f.spelled
 
-pub refuses_close : (ns text : List ℕ) (i k k1 k2 k3 o o1 : ℕ) (xs : List Entry) (n : ℕ) (ys : List Entry) (m r : ℕ) (zs : List Entry) (q t : ℕ) (b : Binary) (e : Fault) →
-    Goes ns text i o Open k → Formed ns text k k1 xs n ys m r → Goes ns text k1 o1 (Infix b) k2 → Formed ns text k2 k3 ys m zs q t → Refuses ns text k3 bracket e → Refuses ns text i formula e
-refuses_close ns text i k k1 k2 k3 o o1 xs n ys m r zs q t b e w f w1 g h = λ s.
-    ap (λ (z : Lexed). judge (length text) z (formula ∷ s)) w.says ∙ splits_judge (length text) (meaning ys m r) _ _ (sign ∷ (formula ∷ (bracket ∷ s))) f.spelled
-    ∙ ap (λ (z : Lexed). judge (length text) z (sign ∷ (formula ∷ (bracket ∷ s)))) w1.says ∙ splits_judge (length text) (meaning zs q t) _ _ (bracket ∷ s) g.spelled ∙ h s
+after_sign : (n : ℕ) (r s : Reader) (o : ℕ) (b : Binary) (t : List Owed) → Goes r o (Infix b) s → judge n (ahead r) (sign ∷ t) ≡ judge n (ahead s) t
+after_sign n r s o b t w = ap (λ (z : Lexed). judge n z (sign ∷ t)) w.says
 
--- a fact of a reader at its beginning
-pub started : {a b c d : List ℕ} {i : ℕ} (P : List ℕ → List ℕ → ℕ → Type 0) → a ≡ b → c ≡ d → i ≡ 0 → P a c i → P b d 0
-started {a} {b} {c} {d} {i} P e f g h = subst (λ (x : ℕ). P b d x) g (moved (λ ns text. P ns text i) e f h)
+pub refuses_sign : (r s1 s2 : Reader) (o : ℕ) (xs ys : List Entry) (i : ℕ) (e : Fault) → ReadsOn r s2 → Goes r o Open s1 → Formed s1 s2 xs ys i → Refuses s2 sign e → Refuses r formula e
+refuses_sign r s1 s2 o xs ys i e on w f h = λ t.
+    after_open _ r s1 o t w ∙ after_formed _ s1 s2 xs ys i _ f ∙ refuses_at r s2 sign (formula ∷ (bracket ∷ t)) e on h
+
+pub refuses_right : (r s1 s2 s3 : Reader) (o o1 : ℕ) (xs ys : List Entry) (i : ℕ) (b : Binary) (e : Fault) → ReadsOn r s3 → Goes r o Open s1 → Formed s1 s2 xs ys i → Goes s2 o1 (Infix b) s3 → Refuses s3 formula e → Refuses r formula e
+refuses_right r s1 s2 s3 o o1 xs ys i b e on w f w1 h = λ t.
+    after_open _ r s1 o t w ∙ after_formed _ s1 s2 xs ys i _ f ∙ after_sign _ s2 s3 o1 b _ w1 ∙ refuses_at r s3 formula (bracket ∷ t) e on h
+
+pub refuses_close : (r s1 s2 s3 s4 : Reader) (o o1 : ℕ) (xs ys zs : List Entry) (i j : ℕ) (b : Binary) (e : Fault) →
+    ReadsOn r s4 → Goes r o Open s1 → Formed s1 s2 xs ys i → Goes s2 o1 (Infix b) s3 → Formed s3 s4 ys zs j → Refuses s4 bracket e → Refuses r formula e
+refuses_close r s1 s2 s3 s4 o o1 xs ys zs i j b e on w f w1 g h = λ t.
+    after_open _ r s1 o t w ∙ after_formed _ s1 s2 xs ys i _ f ∙ after_sign _ s2 s3 o1 b _ w1 ∙ after_formed _ s3 s4 ys zs j _ g ∙ refuses_at r s4 bracket t e on h
+
+-- a reader at the beginning of a text
+pub at_start : (r : Reader) (ns text : List ℕ) → r.list.bytes.now ≡ ns → r.text.now ≡ text → r.at ≡ 0 → ahead r ≡ lexed ns text 0
+at_start r ns text a b c = ap (λ (xs : List ℕ). lexed xs r.text.now r.at) a ∙ ap (λ (xs : List ℕ). lexed ns xs r.at) b ∙ ap (lexed ns text) c
+
+pub judged_whole : (r : Reader) (ns text : List ℕ) (s : List Owed) (v : Verdict) → r.list.bytes.now ≡ ns → r.text.now ≡ text → r.at ≡ 0 → judge (length r.text.now) (ahead r) s ≡ v → judge (length text) (lexed ns text 0) s ≡ v
+judged_whole r ns text s v a b c h =
+    ap (λ (xs : List ℕ). judge (length xs) (lexed ns text 0) s) (sym b) ∙ ap (λ (l : Lexed). judge (length r.text.now) l s) (sym (at_start r ns text a b c)) ∙ h

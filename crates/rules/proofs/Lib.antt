@@ -1,4 +1,3 @@
-pub mod Scans
 pub mod Listed
 pub mod Classes
 pub mod Lexing

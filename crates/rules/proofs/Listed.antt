@@ -1,55 +1,35 @@
-use Rattle.std.proofs.Common.{◌≡◌, ℕ, zero, suc, ◌+◌, ◌-◌, ◌<◌, ◌≤◌, true, false, not, eqb, List, [], ◌∷◌, length, get_or, take, drop, Some, None, Option, sym, refl, ap, ◌∙◌, subst, inl, inr, arith}
-use Rattle.std.specs.List.{prefix_len}
+use Rattle.std.proofs.Common.{◌≡◌, ℕ, ◌+◌, ◌<◌, Bool, true, false, not, eqb, cond, Decides, MatchBool, List, [], ◌∷◌, ◌++◌, append-nil, length, get_or, ltb, Some, None, Option, sym, refl, ap, ◌∙◌, subst, inl, inr, arith}
+use Rattle.std.specs.List.{slice_split, onto_first, position, position_from, position_or_len, join_with_byte, enumerate_from, AllWithin, HoldsAt}
 use Rattle.std.specs.Str.{bytes_eq}
-use Rattle.std.proofs.lemmas.Bool.{eqb-true, ne_eqb, not_from_false, cases_Bool, cases_lt, cond-true, cond-false, true≢false}
-use Rattle.std.proofs.lemmas.List.{drop-drop}
+use Rattle.std.proofs.lemmas.Bool.{cases_Bool, cases_lt, cond-true, cond-false, lt-ltb, ltb-false, true≢false}
+use Rattle.std.proofs.lemmas.List.FromFn.{length-enumerate_from, get_or-enumerate_from}
+use Rattle.std.proofs.lemmas.List.Quantifiers.{position-Some}
+use Rattle.std.proofs.lemmas.List.Splits.{length-slice_split, join_with_byte-slice_split}
+use Rattle.std.proofs.lemmas.List.Sums.{prefix_len_is, prefix_len_passes}
+use Rattle.std.proofs.lemmas.Iterator.Adapters.{position_from-zero}
 use Rattle.std.proofs.lemmas.Slice.Eq.{bytes_eq-Decides}
-use Rattle.rules.specs.Letters.{in_word, run_end}
-use Rattle.rules.specs.Signals.{longer, words, names, spaced, joined, Few, Lawful, place_of, number_of, Looked, Fits, AllFit}
+use Rattle.rules.specs.Signals.{longer, words, names, joined, Few, Lawful, place_of, number_of, Looked, Fits, AllFit}
 
--- the words after the first
-abbrev pub others : List ℕ → List (List ℕ)
-others [] = []
-others (b ∷ bs) = words bs
+-- the words are the parts that the spaces cut off
+longer_onto : (b : ℕ) (ws : List (List ℕ)) → longer b ws ≡ onto_first b ws
+longer_onto b [] = refl
+longer_onto b (w ∷ ws) = refl
 
-abbrev pub splits : List ℕ → Type 0
-splits xs = words xs ≡ take (prefix_len in_word xs) xs ∷ others (drop (prefix_len in_word xs) xs)
-
-pub words_split : (xs : List ℕ) → splits xs
+pub words_split : (bs : List ℕ) → words bs ≡ slice_split (λ b. eqb b 32) bs
 words_split [] = refl
 words_split (b ∷ bs) =
-    let ih = words_split bs in
-    elim (cases_Bool (in_word b)) [
-      | inl y ↦
-          let n : prefix_len in_word (b ∷ bs) ≡ suc (prefix_len in_word bs) = cond-true _ _ _ y ∙ omega arith in
-          let P : ℕ → Type 0 = λ k. words (b ∷ bs) ≡ take k (b ∷ bs) ∷ others (drop k (b ∷ bs)) in
-          subst P (sym n) (cond-true _ _ _ y ∙ ap (longer b) ih)
-      | inr y ↦
-          let n : prefix_len in_word (b ∷ bs) ≡ 0 = cond-false _ _ _ y in
-          let P : ℕ → Type 0 = λ k. words (b ∷ bs) ≡ take k (b ∷ bs) ∷ others (drop k (b ∷ bs)) in
-          subst P (sym n) (cond-false _ _ _ y)
+    elim (cases_Bool (eqb b 32)) [
+      | inl y ↦ cond-false _ _ _ (ap not y) ∙ ap (λ (ws : List (List ℕ)). [] ∷ ws) (words_split bs) ∙ sym (cond-true _ _ _ y)
+      | inr y ↦ cond-true _ _ _ (ap not y) ∙ longer_onto b (words bs) ∙ ap (onto_first b) (words_split bs) ∙ sym (cond-false _ _ _ y)
     ]
 
-pub split_at : (bytes : List ℕ) (i j : ℕ) → j ≡ run_end in_word bytes i → words (drop i bytes) ≡ take (j - i) (drop i bytes) ∷ others (drop j bytes)
-split_at bytes i j e =
-    let k : ℕ = prefix_len in_word (drop i bytes) in
-    let a : j - i ≡ k = omega arith in
-    let b : drop k (drop i bytes) ≡ drop j bytes = drop-drop k i bytes ∙ ap (λ (m : ℕ). drop m bytes) (sym e) in
-    words_split (drop i bytes) ∙ ap (λ (m : ℕ). take m (drop i bytes) ∷ others (drop k (drop i bytes))) (sym a) ∙ ap (λ (ys : List ℕ). take (j - i) (drop i bytes) ∷ others ys) b
-
--- the first word of what is left, and the others
-pub place_split : (x bytes : List ℕ) (i j n : ℕ) → j ≡ run_end in_word bytes i → place_of x (words (drop i bytes)) n ≡ place_of x (take (j - i) (drop i bytes) ∷ others (drop j bytes)) n
-place_split x bytes i j n e = ap (λ ws. place_of x ws n) (split_at bytes i j e)
-
-pub found_here : (x w : List ℕ) (ws : List (List ℕ)) (n : ℕ) → w ≡ x → place_of x (w ∷ ws) n ≡ Some n
-found_here x w ws n e = cond-true _ _ _ ((bytes_eq-Decides w x).1 e)
-
-pub not_here : (x w : List ℕ) (ws : List (List ℕ)) (n : ℕ) → (w ≡ x → ⊥) → place_of x (w ∷ ws) n ≡ place_of x ws (n + 1)
-not_here x w ws n ne =
-    elim (cases_Bool (bytes_eq w x)) [
-      | inl y ↦ absurd (ne ((bytes_eq-Decides w x).0 y))
-      | inr y ↦ cond-false _ _ _ y
-    ]
+-- the place of a word is that of the first that is the same
+pub place_position : (x : List ℕ) (ws : List (List ℕ)) → place_of x ws 0 ≡ position (λ w. bytes_eq w x) ws
+place_position x ws = from x ws 0 ∙ sym (position_from-zero (λ w. bytes_eq w x) ws)
+  where
+    from : (x : List ℕ) (ws : List (List ℕ)) (n : ℕ) → place_of x ws n ≡ position_from (λ w. bytes_eq w x) n ws
+    from x [] n = refl
+    from x (w ∷ ws) n = ap (λ (r : Option ℕ). cond (bytes_eq w x) (Some n) r) (from x ws (n + 1))
 
 -- what has bytes has its words for names
 pub names_words : (bytes : List ℕ) → 0 < length bytes → names bytes ≡ words bytes
@@ -57,80 +37,41 @@ names_words [] h = absurd (omega arith)
 names_words (b ∷ bs) h = refl
 
 -- the words with one space between two are the bytes again
-joined_longer : (b : ℕ) (ws : List (List ℕ)) → joined (longer b ws) ≡ b ∷ joined ws
-joined_longer b [] = refl
-joined_longer b (w ∷ ws) = refl
-
-joined_more : (ws : List (List ℕ)) → 0 < length ws → spaced ws ≡ 32 ∷ joined ws
-joined_more [] h = absurd (omega arith)
-joined_more (w ∷ ws) h = refl
+joined_join : (ws : List (List ℕ)) → joined ws ≡ join_with_byte 32 ws
+joined_join [] = refl
+joined_join (w ∷ []) = append-nil w
+joined_join (w ∷ v ∷ ws) = ap (λ (ys : List ℕ). w ++ 32 ∷ ys) (joined_join (v ∷ ws))
 
 some_words : (xs : List ℕ) → 0 < length (words xs)
-some_words xs = omega (arith, ap length (words_split xs))
-
-longer_length : (b : ℕ) (ws : List (List ℕ)) → 0 < length ws → length (longer b ws) ≡ length ws
-longer_length b [] h = absurd (omega arith)
-longer_length b (w ∷ ws) h = refl
-
--- a space parts off one word more, and no other byte does
-pub words_space : (bs : List ℕ) → length (words (32 ∷ bs)) ≡ 1 + length (words bs)
-words_space bs = omega arith
-
-pub words_other : (b : ℕ) (bs : List ℕ) → (b ≡ 32 → ⊥) → length (words (b ∷ bs)) ≡ length (words bs)
-words_other b bs h =
-    let e : in_word b ≡ true = not_from_false (eqb b 32) (ne_eqb b 32 h) in
-    rw e (longer_length b (words bs) (some_words bs))
-
-no_word : (b : ℕ) → in_word b ≡ false → 32 ≡ b
-no_word b y =
-    elim (cases_Bool (eqb b 32)) [
-      | inl z ↦ sym (eqb-true b 32 z)
-      | inr z ↦ absurd (true≢false (sym (ap not z) ∙ y))
-    ]
+some_words xs = omega (arith, ap length (words_split xs), length-slice_split (λ b. eqb b 32) xs)
 
 joined_words : (xs : List ℕ) → joined (words xs) ≡ xs
-joined_words [] = refl
-joined_words (b ∷ bs) =
-    elim (cases_Bool (in_word b)) [
-      | inl y ↦ ap joined (cond-true (in_word b) (longer b (words bs)) ([] ∷ words bs) y) ∙ joined_longer b (words bs) ∙ ap (λ (ys : List ℕ). b ∷ ys) (joined_words bs)
-      | inr y ↦
-          ap joined (cond-false (in_word b) (longer b (words bs)) ([] ∷ words bs) y) ∙ joined_more (words bs) (some_words bs)
-          ∙ ap (λ (ys : List ℕ). 32 ∷ ys) (joined_words bs) ∙ ap (λ (c : ℕ). c ∷ bs) (no_word b y)
-    ]
+joined_words xs = joined_join (words xs) ∙ ap (join_with_byte 32) (words_split xs) ∙ join_with_byte-slice_split 32 xs
 
 pub joined_names : (bytes : List ℕ) → joined (names bytes) ≡ bytes
 joined_names [] = refl
 joined_names (b ∷ bs) = joined_words (b ∷ bs)
 
 -- each word fits, and the list is lawful: the same
-fit_at : (ns : List ℕ) (ws : List (List ℕ)) (n : ℕ) → AllFit ns ws n → (k : ℕ) → k < length ws → Fits ns (get_or ws k []) (n + k)
-fit_at ns [] n f k h = absurd (omega arith)
-fit_at ns (w ∷ ws) n f zero h = let e : n ≡ n + 0 = omega arith in subst (λ (m : ℕ). Fits ns w m) e f.0
-fit_at ns (w ∷ ws) n f (suc k) h =
-    let e : (n + 1) + k ≡ n + suc k = omega arith in
-    subst (λ (m : ℕ). Fits ns (get_or ws k []) m) e (fit_at ns ws (n + 1) f.1 k (omega arith))
+differs : (w x : List ℕ) → (w ≡ x → ⊥) → bytes_eq w x ≡ false
+differs w x ne =
+    elim (cases_Bool (bytes_eq w x)) [
+      | inl y ↦ absurd (ne ((bytes_eq-Decides w x).0 y))
+      | inr y ↦ y
+    ]
 
-fit_from : (ns : List ℕ) (ws : List (List ℕ)) (n : ℕ) → ((k : ℕ) → k < length ws → Fits ns (get_or ws k []) (n + k)) → AllFit ns ws n
-fit_from ns [] n f = tt
-fit_from ns (w ∷ ws) n f =
-    let e : n + 0 ≡ n = omega arith in (
-      subst (λ (m : ℕ). Fits ns w m) e (f 0 (omega arith)),
-      fit_from ns ws (n + 1) (λ k h. let d : n + suc k ≡ (n + 1) + k = omega arith in subst (λ (m : ℕ). Fits ns (get_or ws k []) m) d (f (suc k) (omega arith))),
-    )
-
-place_first : (x : List ℕ) (ws : List (List ℕ)) (n k : ℕ) → k < length ws → get_or ws k [] ≡ x → ((i : ℕ) → i < k → get_or ws i [] ≡ x → ⊥) → place_of x ws n ≡ Some (n + k)
-place_first x [] n k h e f = absurd (omega arith)
-place_first x (w ∷ ws) n zero h e f = found_here x w ws n e ∙ (let d : n ≡ n + 0 = omega arith in ap (λ (m : ℕ). Some m) d)
-place_first x (w ∷ ws) n (suc k) h e f =
-    let d : (n + 1) + k ≡ n + suc k = omega arith in
-    not_here x w ws n (f 0 (omega arith)) ∙ place_first x ws (n + 1) k (omega arith) e (λ i l. f (suc i) (omega arith)) ∙ ap (λ (m : ℕ). Some m) d
+first_at : (x : List ℕ) (ws : List (List ℕ)) (k : ℕ) → k < length ws → get_or ws k [] ≡ x → ((i : ℕ) → i < k → get_or ws i [] ≡ x → ⊥) → place_of x ws 0 ≡ Some k
+first_at x ws k h here before =
+    let t : List ℕ → Bool = λ w. bytes_eq w x in
+    let other : (i : ℕ) → i < k → not (t (get_or ws i [])) ≡ true = λ i l. ap not (differs (get_or ws i []) x (before i l)) in
+    let n : position_or_len t ws ≡ k = prefix_len_is (λ w. not (t w)) ws k [] (omega arith) other (λ l. ap not ((bytes_eq-Decides (get_or ws k []) x).1 here)) in
+    place_position x ws ∙ rw n (cond-true _ _ _ (lt-ltb k (length ws) h))
 
 all_fit : (ns : List ℕ) → Lawful ns → AllFit ns (names ns) 0
 all_fit ns l =
-    fit_from ns (names ns) 0
-    (λ k h. (omega (arith, l.few), l.proper k h, place_first (get_or (names ns) k []) (names ns) 0 k h refl (λ i lt e. l.distinct i k lt h e)))
+    (λ k h. (omega (arith, l.few), l.proper k h, first_at (get_or (names ns) k []) (names ns) k h refl (λ i lt e. l.distinct i k lt h e) ∙ (let z : k ≡ 0 + k = omega arith in ap (λ (m : ℕ). Some m) z)))
 
-pub lawful_fit : (ns : List ℕ) → Lawful ns → AllFit ns (words ns) 0
+lawful_fit : (ns : List ℕ) → Lawful ns → AllFit ns (words ns) 0
 lawful_fit [] l = absurd (omega (arith, l.some))
 lawful_fit (b ∷ bs) l = all_fit (b ∷ bs) l
 
@@ -138,56 +79,61 @@ fit_names : (ns : List ℕ) → 0 < length (names ns) → AllFit ns (names ns) 0
 fit_names ns s f = record {
   some = s;
   few = elim (cases_lt 16 (length (names ns))) [
-    | inl h ↦ absurd (omega (arith, (fit_at ns (names ns) 0 f 16 h).0))
+    | inl h ↦ absurd (omega (arith, (f 16 h).0))
     | inr h ↦ h
   ];
-  proper = λ k h. (fit_at ns (names ns) 0 f k h).1;
+  proper = λ k h. (f k h).1;
   distinct = λ i j lt h e.
-      let a = (fit_at ns (names ns) 0 f i (omega arith)).2 in
-      let b = (fit_at ns (names ns) 0 f j h).2 in
+      let a = (f i (omega arith)).2 in
+      let b = (f j h).2 in
       let c : Some (0 + i) ≡ Some (0 + j) = sym a ∙ ap (number_of ns) e ∙ b in
       let d : 0 + i ≡ 0 + j = cc in
       omega arith;
 }
 
-pub fit_lawful : (ns : List ℕ) → AllFit ns (words ns) 0 → Lawful ns
-fit_lawful [] (f, g) = absurd (true≢false (sym f.1))
+fit_lawful : (ns : List ℕ) → AllFit ns (words ns) 0 → Lawful ns
+fit_lawful [] f = absurd (true≢false (sym (f 0 (omega arith)).1))
 fit_lawful (b ∷ bs) f = fit_names (b ∷ bs) (some_words (b ∷ bs)) f
 
+-- the words with their places, as the list check goes over them
+abbrev pub placed : List ℕ → List (ℕ × List ℕ)
+placed ns = enumerate_from 0 (slice_split (λ b. eqb b 32) ns)
+
+abbrev pub Fitting : List ℕ → ℕ × List ℕ → Type 0
+Fitting ns p = Fits ns p.1 p.0
+
+fit_placed : (ns : List ℕ) → AllWithin (Fitting ns) (placed ns) 0 (length (placed ns)) → AllFit ns (words ns) 0
+fit_placed ns a =
+    let ws : List (List ℕ) = slice_split (λ b. eqb b 32) ns in
+    let len = length-enumerate_from 0 ws in
+    subst (λ (vs : List (List ℕ)). AllFit ns vs 0) (sym (words_split ns))
+    (λ k h. subst (Fitting ns) (get_or-enumerate_from 0 ws k (0, []) h) (a k (0, []) (omega arith) (omega arith)))
+
+placed_fit : (ns : List ℕ) → AllFit ns (words ns) 0 → (k : ℕ) → k < length (placed ns) → Fitting ns (get_or (placed ns) k (0, []))
+placed_fit ns f k h =
+    let ws : List (List ℕ) = slice_split (λ b. eqb b 32) ns in
+    let lt : k < length ws = omega (arith, length-enumerate_from 0 ws) in
+    let g : AllFit ns ws 0 = subst (λ (vs : List (List ℕ)). AllFit ns vs 0) (words_split ns) f in
+    subst (Fitting ns) (sym (get_or-enumerate_from 0 ws k (0, []) lt)) (g k lt)
+
+pub lawful_decided : (ns : List ℕ) (r : Bool) → MatchBool r (AllWithin (Fitting ns) (placed ns) 0 (length (placed ns))) ((k : ℕ) × (k < length (placed ns)) × HoldsAt (λ p. Fitting ns p → ⊥) (placed ns) k) → Decides r (Lawful ns)
+lawful_decided ns true a = (λ _. fit_lawful ns (fit_placed ns a), λ _. refl)
+lawful_decided ns false (k, h, n) = (λ e. absurd (true≢false (sym e)), λ l. absurd (n (0, []) (placed_fit ns (lawful_fit ns l) k h)))
+
 -- a look-up finds exactly the names that are there
-abbrev Found : List (List ℕ) → List ℕ → ℕ → Option ℕ → Type 0
-Found ws x n None = (k : ℕ) → k < length ws → get_or ws k [] ≡ x → ⊥
-Found ws x n (Some m) = (n ≤ m) × (m < n + length ws) × (get_or ws (m - n) [] ≡ x)
-
-found_later : (w x : List ℕ) (ws : List (List ℕ)) (n : ℕ) (r : Option ℕ) → (w ≡ x → ⊥) → Found ws x (n + 1) r → Found (w ∷ ws) x n r
-found_later w x ws n None ne f = λ k. past k
-  where
-    past : (k : ℕ) → k < length (w ∷ ws) → get_or (w ∷ ws) k [] ≡ x → ⊥
-    past zero h e = ne e
-    past (suc k) h e = f k (omega arith) e
-found_later w x ws n (Some m) ne (a, b, e) =
-    let d : m - n ≡ suc (m - (n + 1)) = omega arith in
-    (omega arith, omega arith, ap (λ (k : ℕ). get_or (w ∷ ws) k []) d ∙ e)
-
-place_found : (x : List ℕ) (ws : List (List ℕ)) (n : ℕ) → Found ws x n (place_of x ws n)
-place_found x [] n = λ k h e. omega arith
-place_found x (w ∷ ws) n =
-    let P : Option ℕ → Type 0 = λ r. Found (w ∷ ws) x n r in
-    elim (cases_Bool (bytes_eq w x)) [
-      | inl y ↦
-          let d : 0 ≡ n - n = omega arith in
-          subst P (sym (cond-true (bytes_eq w x) (Some n) (place_of x ws (n + 1)) y)) (omega arith, omega arith, ap (λ (k : ℕ). get_or (w ∷ ws) k []) (sym d) ∙ (bytes_eq-Decides w x).0 y)
+looked : (ws : List (List ℕ)) (x : List ℕ) (r : Option ℕ) → r ≡ position (λ w. bytes_eq w x) ws → Looked ws x r
+looked ws x None e = λ k h f.
+    let t : List ℕ → Bool = λ w. bytes_eq w x in
+    elim (cases_Bool (ltb (position_or_len t ws) (length ws))) [
+      | inl y ↦ let d : None ≡ Some (position_or_len t ws) = e ∙ cond-true _ _ _ y in cc
       | inr y ↦
-          subst P (sym (cond-false (bytes_eq w x) (Some n) (place_of x ws (n + 1)) y))
-          (found_later w x ws n (place_of x ws (n + 1)) (λ e. true≢false (sym ((bytes_eq-Decides w x).1 e) ∙ y)) (place_found x ws (n + 1)))
+          let n = ltb-false _ _ y in
+          true≢false (sym (prefix_len_passes (λ w. not (t w)) ws k [] (omega arith)) ∙ ap not ((bytes_eq-Decides (get_or ws k []) x).1 f))
     ]
-
-as_looked : (ws : List (List ℕ)) (x : List ℕ) (r : Option ℕ) → Found ws x 0 r → Looked ws x r
-as_looked ws x None f = f
-as_looked ws x (Some k) (a, b, e) = let d : k ≡ k - 0 = omega arith in (omega arith, ap (λ (m : ℕ). get_or ws m []) d ∙ e)
+looked ws x (Some k) e = let p = position-Some (λ w. bytes_eq w x) ws k [] (sym e) in (p.0, (bytes_eq-Decides (get_or ws k []) x).0 p.1)
 
 pub number_looked : (ns x : List ℕ) (r : Option ℕ) → r ≡ number_of ns x → Looked (names ns) x r
-number_looked ns x r e = subst (λ (r : Option ℕ). Looked (names ns) x r) (sym e) (as_looked (names ns) x (number_of ns x) (place_found x (names ns) 0))
+number_looked ns x r e = looked (names ns) x r (e ∙ place_position x (names ns))
 
 pub number_small : (ns x : List ℕ) (k : ℕ) → Few (names ns) → number_of ns x ≡ Some k → k < 16
 number_small ns x k l e = omega (arith, l, (number_looked ns x (Some k) (sym e)).0)

@@ -1,4 +1,4 @@
-use Rattle.std.proofs.Common.{◌≡◌, ℕ, ◌+◌, List, Some, None, Ok, Err, sym, ap, ◌∙◌, subst, arith}
+use Rattle.std.proofs.Common.{◌≡◌, ℕ, ◌+◌, List, Some, None, Ok, Err, sym, ap, ◌∙◌, subst}
 use Rattle.rules.specs.declared.reader.Token.{Token}
 use Rattle.rules.specs.declared.reader.Token.TheVariants.{Name, True as TrueToken, False as FalseToken, Unary as UnaryToken, Binary as BinaryToken, Open as OpenToken, Close as CloseToken}
 use Rattle.rules.specs.declared.syntax.Atom.TheVariants.{True, False, Signal}
@@ -29,7 +29,7 @@ stands_ends ns text o j OpenToken h = (h.1, tt)
 stands_ends ns text o j CloseToken h = (h.1, tt)
 
 clash : {P : Type 0} (l : Lexed) → l ≡ done → (o : ℕ) (w : Word) (m : Lexed) → l ≡ word o w m → P
-clash l e o w m f = let z : ◌≡◌ {A = ℕ} 0 1 = cc in absurd (omega arith)
+clash l e o w m f = absurd cc
 
 pub reads_determined : ReadsDetermined
 reads_determined ns text i (Ok None) (Ok None) j k a b = (tt, a.1 ∙ sym b.1)
@@ -44,10 +44,10 @@ reads_determined ns text i (Ok (Some p)) (Ok (Some q)) j k a b =
     let ej : j ≡ k = sp.0 ∙ ap (λ (w : Word). ends text p.0 w) ew ∙ ap (λ (o : ℕ). ends text o (word_of q.1)) eo ∙ sym sq.0 in
     let eb : part text p.0 j ≡ part text q.0 k = ap (λ (o : ℕ). part text o j) eo ∙ ap (part text q.0) ej in
     ((eo, ew, (part text q.0 k, subst (λ (x : List ℕ). Lends p.1 x) eb sp.1, sq.1)), ej)
-reads_determined ns text i (Ok None) (Err f) j k a b = let e = sym (reads_says ns text i (Ok None) j a) ∙ reads_says ns text i (Err f) k b in let z : ◌≡◌ {A = ℕ} 0 1 = cc in absurd (omega arith)
-reads_determined ns text i (Ok (Some p)) (Err f) j k a b = let e = sym (reads_says ns text i (Ok (Some p)) j a) ∙ reads_says ns text i (Err f) k b in let z : ◌≡◌ {A = ℕ} 0 1 = cc in absurd (omega arith)
-reads_determined ns text i (Err f) (Ok None) j k a b = let e = sym (reads_says ns text i (Err f) j a) ∙ reads_says ns text i (Ok None) k b in let z : ◌≡◌ {A = ℕ} 0 1 = cc in absurd (omega arith)
-reads_determined ns text i (Err f) (Ok (Some q)) j k a b = let e = sym (reads_says ns text i (Err f) j a) ∙ reads_says ns text i (Ok (Some q)) k b in let z : ◌≡◌ {A = ℕ} 0 1 = cc in absurd (omega arith)
+reads_determined ns text i (Ok None) (Err f) j k a b = let e = sym (reads_says ns text i (Ok None) j a) ∙ reads_says ns text i (Err f) k b in absurd cc
+reads_determined ns text i (Ok (Some p)) (Err f) j k a b = let e = sym (reads_says ns text i (Ok (Some p)) j a) ∙ reads_says ns text i (Err f) k b in absurd cc
+reads_determined ns text i (Err f) (Ok None) j k a b = let e = sym (reads_says ns text i (Err f) j a) ∙ reads_says ns text i (Ok None) k b in absurd cc
+reads_determined ns text i (Err f) (Ok (Some q)) j k a b = let e = sym (reads_says ns text i (Err f) j a) ∙ reads_says ns text i (Ok (Some q)) k b in absurd cc
 reads_determined ns text i (Err f) (Err g) j k a b =
     let e = sym (reads_says ns text i (Err f) j a) ∙ reads_says ns text i (Err g) k b in
     let eo : f.offset ≡ g.offset = a.0 ∙ sym b.0 in

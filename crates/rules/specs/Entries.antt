@@ -1,5 +1,5 @@
 -- The formulas that the entries of an arena stand for.
-use Rattle.std.specs.Prelude.{◌≡◌, ℕ, ◌<◌, Bool, true, ◌&&◌, List, [], ◌∷◌, ◌++◌, take, nat_lt, slice_index_or}
+use Rattle.std.specs.Prelude.{◌≡◌, ℕ, ◌-◌, ◌<◌, Bool, true, ◌&&◌, List, [], ◌∷◌, ◌++◌, length, take, nat_lt, slice_index_or}
 use Rattle.rules.specs.declared.syntax.Atom.TheVariants.{True}
 use Rattle.rules.specs.declared.syntax.Entry.{Entry}
 use Rattle.rules.specs.declared.syntax.Entry.TheVariants.{Leaf, One, Two}
@@ -33,6 +33,10 @@ build fs (x ∷ xs) = build (fs ++ (made fs x ∷ [])) xs
 -- the formula of entry i, of n entries
 abbrev pub meaning : List Entry → ℕ → ℕ → Formula
 meaning xs n i = slice_index_or (build [] (take n xs)) i (atom True)
+
+-- the formula of the last of the entries
+abbrev pub last_meaning : List Entry → Formula
+last_meaning xs = meaning xs (length xs) (length xs - 1)
 
 -- the law of it: an entry stands for its sign over what its operands stand for
 abbrev pub Stands : (ℕ → Formula) → Entry → Formula → Type 0

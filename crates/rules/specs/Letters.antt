@@ -1,8 +1,6 @@
 -- Kinds of bytes, and names.
-use Rattle.std.specs.Prelude.{ℕ, ◌+◌, Bool, not, ◌&&◌, ◌||◌, List, length, drop, ◌==◌, nat_le, nat_lt, slice_index}
+use Rattle.std.specs.Prelude.{◌≡◌, ℕ, ◌+◌, Bool, not, ◌&&◌, ◌||◌, List, length, drop, ◌==◌, nat_le, nat_lt, slice_index}
 use Rattle.std.specs.List.{prefix_len}
-use Rattle.rules.specs.declared.letters.Kind.{Kind}
-use Rattle.rules.specs.declared.letters.Kind.TheVariants.{Blank, Name, Word}
 
 -- a to z
 abbrev pub small : ℕ → Bool
@@ -20,10 +18,9 @@ blank b = b == 32 || b == 10
 abbrev pub in_word : ℕ → Bool
 in_word b = not (b == 32)
 
-abbrev pub is_of : Kind → ℕ → Bool
-is_of Blank = blank
-is_of Name = in_name
-is_of Word = in_word
+-- whatever a call may answer at a byte is what the test says of it
+abbrev pub Computes : (ℕ → Bool → Type 0) → (ℕ → Bool) → Type 0
+Computes post test = (byte : ℕ) (answer : Bool) → post byte answer → answer ≡ test byte
 
 -- the end of the bytes from i on that pass a test
 abbrev pub run_end : (ℕ → Bool) → List ℕ → ℕ → ℕ

@@ -1,4 +1,5 @@
 pub mod Refusals
+pub mod Tellings
 pub mod Letters
 pub mod Signals
 pub mod Formula

@@ -52,6 +52,16 @@ Stands ns text i j (BinaryToken b) = Byte text i j (binary_sign b)
 Stands ns text i j OpenToken = Byte text i j 40
 Stands ns text i j CloseToken = Byte text i j 41
 
+-- how many bytes a token takes
+abbrev pub width : Token → ℕ
+width (Name s k) = length s.now
+width TrueToken = 1
+width FalseToken = 1
+width (UnaryToken u) = 1
+width (BinaryToken b) = 1
+width OpenToken = 1
+width CloseToken = 1
+
 -- what is wrong at i
 abbrev pub Faulty : List ℕ → List ℕ → ℕ → FaultKind → Type 0
 Faulty ns text i Letter = class (slice_index text i) ≡ other

@@ -6,31 +6,32 @@ use Rattle.rules.specs.declared.refusal.Refusal.{Refusal}
 use Rattle.rules.specs.declared.refusal.Refusal.TheVariants.{Length}
 use Rattle.rules.specs.declared.syntax.Entry.{Entry}
 use Rattle.rules.specs.declared.arena.Rule.{Rule}
+use Rattle.rules.specs.declared.reader.Reader.{Reader}
 use Rattle.rules.specs.Refusals.{refusal_of}
 use Rattle.rules.specs.Formula.{Formula, spell, size}
 use Rattle.rules.specs.Runs.{Run, Keeps, Breaks}
 use Rattle.rules.specs.Text.{lexed}
-use Rattle.rules.specs.Entries.{nothing, Ordered, meaning, Stands}
+use Rattle.rules.specs.Entries.{nothing, Ordered, meaning, last_meaning, Stands}
 use Rattle.rules.specs.Owed.{formula, said, Splits, OwedExact}
 use Rattle.rules.specs.First.{FirstFault, FaultFirst, FirstOnly}
 use Rattle.rules.specs.Reading.{ReadsDetermined}
-use Rattle.rules.specs.Words.{Refuses}
+use Rattle.rules.specs.Words.{Refuses, ahead}
 
--- from i to j the text spells the formula of entry r, the last of the m entries ys, which go on the n entries xs
-pub record Formed (ns text : List ℕ) (i j : ℕ) (xs : List Entry) (n : ℕ) (ys : List Entry) (m r : ℕ) : Type 0 where
-  pub last : r + 1 ≡ m
-  pub grown : m ≡ n + size (meaning ys m r)
-  pub kept : take n ys ≡ take n xs
-  pub few : m + i ≤ n + j
-  pub spelled : Splits (lexed ns text i) (spell (meaning ys m r)) (lexed ns text j)
+-- between the two readers the text spells the formula of entry r, the last of the entries ys, which go on the entries xs
+pub record Formed (old new : Reader) (xs ys : List Entry) (r : ℕ) : Type 0 where
+  pub last : r + 1 ≡ length ys
+  pub grown : length ys ≡ length xs + size (meaning ys (length ys) r)
+  pub kept : take (length xs) ys ≡ xs
+  pub few : length ys + old.at ≤ length xs + new.at
+  pub spelled : Splits (ahead old) (spell (meaning ys (length ys) r)) (ahead new)
 
-abbrev pub Parses : List ℕ → List ℕ → ℕ → ℕ → List Entry → ℕ → List Entry → ℕ → Result ℕ Fault → Type 0
-Parses ns text i j xs n ys m (Ok r) = Formed ns text i j xs n ys m r
-Parses ns text i j xs n ys m (Err f) = Refuses ns text i formula f
+abbrev pub Parses : Reader → List Entry → Result ℕ Fault → Reader → List Entry → Type 0
+Parses old xs (Ok r) new ys = Formed old new xs ys r
+Parses old xs (Err f) new ys = Refuses old formula f
 
 -- the formula that a rule is
 abbrev pub formula_of : Rule → Formula
-formula_of r = meaning r.arena.entries r.arena.len (r.arena.len - 1)
+formula_of r = last_meaning r.arena
 
 -- the text spells the formula f
 abbrev pub Spells : List ℕ → List ℕ → Formula → Type 0

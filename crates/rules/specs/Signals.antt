@@ -73,5 +73,4 @@ Fits bytes w n = (n < 16) × (is_name w ≡ true) × (number_of bytes w ≡ Some
 
 -- each of the words, numbered from n, may
 abbrev pub AllFit : List ℕ → List (List ℕ) → ℕ → Type 0
-AllFit bytes [] n = Unit {0}
-AllFit bytes (w ∷ ws) n = Fits bytes w n × AllFit bytes ws (n + 1)
+AllFit bytes ws n = (k : ℕ) → k < length ws → Fits bytes (slice_index_or ws k []) (n + k)

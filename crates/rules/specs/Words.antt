@@ -1,30 +1,45 @@
 -- What the steps of the rule reader hear: the next word, a sign, a closing bracket.
 use Rattle.std.specs.Prelude.{◌≡◌, ℕ, ◌<◌, List, ◌∷◌, length, Some, None, Ok, Err, Option, Result}
 use Rattle.rules.specs.declared.refusal.Fault.{Fault}
+use Rattle.rules.specs.declared.reader.Reader.{Reader}
 use Rattle.rules.specs.declared.syntax.Binary.{Binary}
 use Rattle.rules.specs.declared.syntax.Word.{Word}
 use Rattle.rules.specs.declared.syntax.Word.TheVariants.{Infix, Close}
-use Rattle.rules.specs.Text.{done, stop, word, lexed}
+use Rattle.rules.specs.Text.{Lexed, done, stop, word, lexed}
 use Rattle.rules.specs.Owed.{Owed, sign, bracket, judge, refused}
 
--- the text says from i on the word w at o, and goes on at j
-pub record Goes (ns text : List ℕ) (i o : ℕ) (w : Word) (j : ℕ) : Type 0 where
-  pub says : lexed ns text i ≡ word o w (lexed ns text j)
-  pub moves : i < j
+-- the reader has gone on in the same text, over the same list
+pub record ReadsOn (old new : Reader) : Type 0 where
+  pub list : new.list.bytes.now ≡ old.list.bytes.now
+  pub text : new.text.now ≡ old.text.now
 
-abbrev pub Hears : List ℕ → List ℕ → ℕ → Result (Option (ℕ × Word)) Fault → ℕ → Type 0
-Hears ns text i (Ok None) j = lexed ns text i ≡ done
-Hears ns text i (Ok (Some p)) j = Goes ns text i p.0 p.1 j
-Hears ns text i (Err f) j = lexed ns text i ≡ stop f.kind f.offset
+-- what the text says from where the reader stands
+abbrev pub ahead : Reader → Lexed
+ahead r = lexed r.list.bytes.now r.text.now r.at
+
+-- the text says the word w at o, and goes on where the new reader stands
+pub record Goes (old : Reader) (o : ℕ) (w : Word) (new : Reader) : Type 0 where
+  pub says : ahead old ≡ word o w (ahead new)
+  pub moves : old.at < new.at
+
+abbrev pub Hears : Reader → Result (Option (ℕ × Word)) Fault → Reader → Type 0
+Hears old (Ok None) new = ahead old ≡ done
+Hears old (Ok (Some p)) new = Goes old p.0 p.1 new
+Hears old (Err f) new = ahead old ≡ stop f.kind f.offset
 
 -- where x is owed first, the text is refused with the fault f, whatever else is owed
-abbrev pub Refuses : List ℕ → List ℕ → ℕ → Owed → Fault → Type 0
-Refuses ns text i x f = (s : List Owed) → judge (length text) (lexed ns text i) (x ∷ s) ≡ refused f.kind f.offset
+abbrev pub Refuses : Reader → Owed → Fault → Type 0
+Refuses r x f = (s : List Owed) → judge (length r.text.now) (ahead r) (x ∷ s) ≡ refused f.kind f.offset
 
-abbrev pub HearsSign : List ℕ → List ℕ → ℕ → Result Binary Fault → ℕ → Type 0
-HearsSign ns text i (Ok b) j = (o : ℕ) × Goes ns text i o (Infix b) j
-HearsSign ns text i (Err f) j = Refuses ns text i sign f
+-- a word where anything is owed
+abbrev pub HearsWord : Reader → Result (ℕ × Word) Fault → Reader → Type 0
+HearsWord old (Ok p) new = Goes old p.0 p.1 new
+HearsWord old (Err f) new = (x : Owed) → Refuses old x f
 
-abbrev pub HearsClose : List ℕ → List ℕ → ℕ → Result (Unit {0}) Fault → ℕ → Type 0
-HearsClose ns text i (Ok u) j = (o : ℕ) × Goes ns text i o Close j
-HearsClose ns text i (Err f) j = Refuses ns text i bracket f
+abbrev pub HearsSign : Reader → Result Binary Fault → Reader → Type 0
+HearsSign old (Ok b) new = (o : ℕ) × Goes old o (Infix b) new
+HearsSign old (Err f) new = Refuses old sign f
+
+abbrev pub HearsClose : Reader → Result (Unit {0}) Fault → Reader → Type 0
+HearsClose old (Ok u) new = (o : ℕ) × Goes old o Close new
+HearsClose old (Err f) new = Refuses old bracket f

@@ -1,47 +1,73 @@
 // A formula held without allocation: entries whose operands are earlier entries.
-ghost use Rattle.std.specs.Prelude.{◌≡◌, ℕ, ◌+◌, ◌-◌, ◌<◌, ◌≤◌, true, length, slice_set};
-ghost use Rattle.rules.specs.Entries.{below, Ordered, meaning};
+ghost use Rattle.std.specs.Prelude.{◌≡◌, ℕ, ◌+◌, ◌-◌, ◌<◌, ◌≤◌, true, [], ◌∷◌, ◌++◌, length};
+ghost use Rattle.rules.specs.Entries.{below, last_meaning, Ordered};
 ghost use Rattle.rules.specs.Formula.{size};
 
-use crate::syntax::{Atom, Entry};
+use crate::rule::LONGEST;
+use crate::syntax::Entry;
+use arrayvec::ArrayVec;
+use std::marker::Model;
 
+// At most as many entries as a rule text has bytes. A clause sees their list.
 #[derive(Drop)]
 pub struct Arena {
-    pub(crate) entries: [Entry; 512],
-    pub(crate) len: usize,
-    ghost room: { length entries ≡ 512 },
-    ghost fits: { len ≤ 512 },
-    ghost ordered: { Ordered entries len },
+    entries: ArrayVec<Entry, LONGEST>,
+}
+
+impl Model for Arena {
+    ghost use Rattle.std.specs.Prelude.{List, length};
+    ghost use Rattle.rules.specs.declared.syntax.Entry.{Entry};
+    ghost use Rattle.rules.specs.Entries.{Ordered};
+
+    ghost Value = { List Entry };
+
+    ghost view = { λ a. a.entries.items };
+
+    ghost invariant = { λ a. Ordered a.entries.items (length a.entries.items) };
 }
 
 // One formula: the last entry stands for it, and there is one entry for each of its symbols.
 #[derive(Drop)]
 pub struct Rule {
     pub(crate) arena: Arena,
-    ghost rooted: { 0 < arena.len },
-    ghost whole: { arena.len ≡ size (meaning arena.entries arena.len (arena.len - 1)) },
+    ghost rooted: { 0 < length arena },
+    ghost whole: { length arena ≡ size (last_meaning arena) },
 }
 
 impl Arena {
     pub(crate) fn new() -> Arena
-        ensures { result.len ≡ 0 }
+        ensures { result ≡ [] }
     {
         Arena {
-            entries: [Entry::Leaf(Atom::True); 512],
-            len: 0,
+            entries: ArrayVec::new(),
         }
     }
 
     // Adds an entry, and gives its number.
     pub(crate) fn push(&mut self, entry: Entry) -> u16
-        requires { (self.old.len < 512) × (below self.old.len entry ≡ true) }
-        ensures entries { self.new.entries ≡ slice_set self.old.entries self.old.len entry }
-        ensures len { self.new.len ≡ self.old.len + 1 }
-        ensures number { result ≡ self.old.len }
+        requires room { length self.old < LONGEST }
+        requires operands { below (length self.old) entry ≡ true }
+        ensures entries { self.new ≡ self.old ++ entry ∷ [] }
+        ensures number { result ≡ length self.old }
     {
-        let number = self.len;
-        self.entries[number] = entry;
-        self.len = number + 1;
+        let number = self.entries.len();
+        self.entries.push(entry);
         number as u16
+    }
+
+    // How many entries there are.
+    pub(crate) fn len(&self) -> usize
+        ensures { result ≡ length self.now }
+    {
+        self.entries.len()
+    }
+
+    // The entries, operands before what they are operands of.
+    pub(crate) fn entries(&self) -> &[Entry]
+        ensures entries { result.now ≡ self.now }
+        ensures few { length result.now ≤ LONGEST }
+        ensures ordered { Ordered result.now (length result.now) }
+    {
+        self.entries.as_slice()
     }
 }

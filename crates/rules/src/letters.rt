@@ -1,35 +1,27 @@
-// Kinds of bytes, and where a run of one kind ends.
-ghost use Rattle.std.specs.Prelude.{◌≡◌, ℕ, ◌+◌, ◌<◌, ◌≤◌, length};
-ghost use Rattle.rules.specs.Letters.{is_of, run_end};
+// What a byte may be part of, and how far bytes of one kind reach.
+ghost use Rattle.std.specs.Prelude.{◌≡◌, ℕ, Bool, ◌≤◌, length};
+ghost use Rattle.std.specs.List.{prefix_len};
+ghost use Rattle.rules.specs.Letters.{blank, in_name, Computes};
 
-#[derive(Clone, Copy)]
-pub(crate) enum Kind {
-    // may stand around tokens
-    Blank,
-    // a lower-case letter or a digit, as in names
-    Name,
-    // any byte but the space between two names
-    Word,
+// Does it stand around tokens?
+pub(crate) fn is_blank(byte: u8) -> bool
+    ensures { result ≡ blank byte }
+{
+    matches!(byte, b' ' | b'\n')
 }
 
-fn is_of(kind: Kind, b: u8) -> bool
-    ensures { result ≡ is_of kind b }
+// Is it a lower-case letter or a digit, as in names?
+pub(crate) fn is_in_name(byte: u8) -> bool
+    ensures { result ≡ in_name byte }
 {
-    match kind {
-        Kind::Blank => b == b' ' || b == b'\n',
-        Kind::Name => (b >= b'a' && b <= b'z') || (b >= b'0' && b <= b'9'),
-        Kind::Word => b != b' ',
-    }
+    byte.is_ascii_lowercase() || byte.is_ascii_digit()
 }
 
-// Where the bytes of this kind end that stand from `from` on.
-pub(crate) fn run_end(kind: Kind, text: &[u8], from: usize) -> usize
-    requires { from ≤ length text.now }
-    ensures { (result ≡ run_end (is_of kind) text.now from) × (from ≤ result) × (result ≤ length text.now) }
+// How many bytes pass the test, from the first on.
+pub(crate) fn run_length<F: Fn(u8) -> bool>(bytes: &[u8], passes: F) -> usize
+    requires { F.IsAlwaysCallable passes }
+    ensures within { result ≤ length bytes.now }
+    ensures run { (test : ℕ → Bool) → Computes (F.post passes) test → result ≡ prefix_len test bytes.now }
 {
-    let mut at = from;
-    while at < text.len() && is_of(kind, text[at]) {
-        at += 1;
-    }
-    at
+    bytes.iter().take_while(|byte| passes(**byte)).count()
 }

@@ -1,13 +1,13 @@
 // Cuts a rule text into tokens.
 ghost use Rattle.std.specs.Prelude.{◌≡◌, ℕ, ◌+◌, ◌<◌, ◌≤◌, length};
-ghost use Rattle.rules.specs.Reading.{Reads};
+ghost use Rattle.rules.specs.Reading.{Reads, width};
 
-use crate::letters::{Kind, run_end};
+use crate::letters::{is_blank, is_in_name, run_length};
 use crate::refusal::{Fault, FaultKind};
 use crate::signals::SignalList;
 use crate::syntax::{Binary, Unary};
 
-#[derive(Clone, Copy)]
+#[derive(Clone, Copy, Debug, PartialEq, Eq)]
 pub enum Token<'a> {
     // the name as it stands in the text, and the signal's number
     Name(&'a [u8], u8),
@@ -17,6 +17,18 @@ pub enum Token<'a> {
     Binary(Binary),
     Open,
     Close,
+}
+
+impl Token<'_> {
+    // How many bytes of the text the token takes.
+    fn width(&self) -> usize
+        ensures { result ≡ width self.now }
+    {
+        match self {
+            Token::Name(name, _) => name.len(),
+            _ => 1,
+        }
+    }
 }
 
 // Steps through a text; what stands before `at` has been handed out.
@@ -31,7 +43,9 @@ pub struct Reader<'a> {
 impl<'a> Reader<'a> {
     // A reader at the text's beginning.
     pub fn new(list: SignalList<'a>, text: &'a [u8]) -> Reader<'a>
-        ensures { (result.list.bytes.now ≡ list.entry.bytes.now) × (result.text.now ≡ text.now) × (result.at ≡ 0) }
+        ensures list { result.list.bytes.now ≡ list.entry.bytes.now }
+        ensures text { result.text.now ≡ text.now }
+        ensures at { result.at ≡ 0 }
     {
         Reader { list, text, at: 0 }
     }
@@ -43,27 +57,12 @@ impl<'a> Reader<'a> {
         ensures reads { Reads self.old.list.bytes.now self.old.text.now self.old.at result self.new.at }
     {
         let text = self.text;
-        let at = run_end(Kind::Blank, text, self.at);
+        let at = self.at + run_length(&text[self.at..], is_blank);
         self.at = at;
-        if at >= text.len() {
+        let Some(first) = text.get(at) else {
             return Ok(None);
-        }
-        let first = text[at];
-        if first >= b'a' && first <= b'z' {
-            let end = run_end(Kind::Name, text, at);
-            let name = &text[at..end];
-            return match self.list.number_of(name) {
-                Some(signal) => {
-                    self.at = end;
-                    Ok(Some((at, Token::Name(name, signal))))
-                }
-                None => Err(Fault {
-                    kind: FaultKind::Signal,
-                    offset: at,
-                }),
-            };
-        }
-        let token = match first as char {
+        };
+        let token = match *first as char {
             'T' => Token::True,
             'F' => Token::False,
             '~' => Token::Unary(Unary::Not),
@@ -76,12 +75,15 @@ impl<'a> Reader<'a> {
             '=' => Token::Binary(Binary::Equivalent),
             '(' => Token::Open,
             ')' => Token::Close,
-            _ => return Err(Fault {
-                kind: FaultKind::Letter,
-                offset: at,
-            }),
+            // A guard, since after a range pattern a proof does not know what `_` rules out.
+            letter if letter.is_ascii_lowercase() => {
+                let name = &text[at..at + run_length(&text[at..], is_in_name)];
+                let signal = self.list.number_of(name).ok_or(FaultKind::Signal.at(at))?;
+                Token::Name(name, signal)
+            }
+            _ => return Err(FaultKind::Letter.at(at)),
         };
-        self.at = at + 1;
+        self.at = at + token.width();
         Ok(Some((at, token)))
     }
 }

@@ -1,10 +1,13 @@
 // Why a call is refused. There are sixteen refusals, each with a number and a word; some carry an
 // offset into the bytes that were refused, or the length of the record that the call left.
-ghost use Rattle.std.specs.Prelude.{◌≡◌};
+ghost use Rattle.std.specs.Prelude.{◌≡◌, Some};
 ghost use Rattle.rules.specs.Refusals.{refusal_of, told, word, offset_of};
+ghost use Rattle.rules.specs.Tellings.{telling};
+
+use std::fmt;
 
 // What can be wrong with a rule text of a lawful length.
-#[derive(Clone, Copy)]
+#[derive(Clone, Copy, Debug, PartialEq, Eq)]
 pub enum FaultKind {
     // a byte that starts no token
     Letter,
@@ -15,13 +18,23 @@ pub enum FaultKind {
 }
 
 // The first fault of a rule text, and where it stands.
-#[derive(Clone, Copy)]
+#[derive(Clone, Copy, Debug, PartialEq, Eq)]
 pub struct Fault {
     pub kind: FaultKind,
     pub offset: usize,
 }
 
-#[derive(Clone, Copy, PartialEq)]
+impl FaultKind {
+    // The fault of this kind that stands at the offset.
+    pub(crate) fn at(self, offset: usize) -> Fault
+        ensures kind { result.kind ≡ self }
+        ensures offset { result.offset ≡ offset }
+    {
+        Fault { kind: self, offset }
+    }
+}
+
+#[derive(Clone, Copy, Debug, PartialEq, Eq)]
 pub enum Refusal {
     Place,
     Job,
@@ -44,7 +57,7 @@ pub enum Refusal {
 }
 
 impl Refusal {
-    // The number by which programs know the refusal.
+    // The number by which programs and callers from C know the refusal; a cast gives none, since some variants carry values.
     pub fn number(&self) -> u8
         ensures { result ≡ (told self.now).0 }
     {
@@ -100,6 +113,21 @@ impl Refusal {
             Refusal::Letter(at) | Refusal::Signal(at) | Refusal::Form(at) | Refusal::Archive(at) =>
                 Some(*at),
             _ => None,
+        }
+    }
+}
+
+// A refusal in words: its number, its word and, where it has one, its offset.
+impl fmt::Display for Refusal {
+    ghost output = { λ r. Some (telling r) };
+
+    fn fmt<W: fmt::Write>(&self, f: &mut fmt::Formatter<W>) -> fmt::Result {
+        let number = self.number();
+        let word = self.word();
+        write!(f, "{number}, {word}")?;
+        match self.offset() {
+            Some(offset) => write!(f, ", at offset {offset}"),
+            None => Ok(()),
         }
     }
 }

@@ -1,5 +1,6 @@
 // Reads a rule text as one formula, by recursive descent.
 ghost use Rattle.std.specs.Prelude.{◌≡◌, ℕ, ◌+◌, ◌<◌, ◌≤◌, length};
+ghost use Rattle.rules.specs.Words.{ReadsOn};
 ghost use Rattle.rules.specs.Rules.{Parses, Whole, ReadAs, Alone, Divides, Shows, Grammar};
 ghost use Rattle.rules.specs.Formula.{size};
 ghost use Rattle.rules.specs.Rules.{formula_of};
@@ -10,58 +11,45 @@ use crate::reader::Reader;
 use crate::refusal::{Fault, FaultKind, Refusal};
 use crate::signals::SignalList;
 use crate::syntax::{Entry, Word};
-use crate::words::{close, next_word, sign};
 
 // A rule text has at most so many bytes.
 pub const LONGEST: usize = 512;
 
 // Reads one formula into the arena, and gives the number of its entry.
 fn formula(arena: &mut Arena, reader: &mut Reader) -> Result<u16, Fault>
-    requires { (arena.old.len ≤ reader.old.at) × (length reader.old.text.now ≤ 512) }
-    ensures list { reader.new.list.bytes.now ≡ reader.old.list.bytes.now }
-    ensures text { reader.new.text.now ≡ reader.old.text.now }
-    ensures parses { Parses reader.old.list.bytes.now reader.old.text.now reader.old.at reader.new.at arena.old.entries arena.old.len arena.new.entries arena.new.len result }
+    requires room { length arena.old ≤ reader.old.at }
+    requires short { length reader.old.text.now ≤ LONGEST }
+    ensures same { ReadsOn reader.old reader.new }
+    ensures parses { Parses reader.old arena.old result reader.new arena.new }
 {
-    match next_word(reader)? {
-        None => Err(Fault {
-            kind: FaultKind::Form,
-            offset: reader.text.len(),
-        }),
-        Some((at, word)) => match word {
-            Word::Leaf(atom) => Ok(arena.push(Entry::Leaf(atom))),
-            Word::Prefix(unary) => {
-                let inner = formula(arena, reader)?;
-                Ok(arena.push(Entry::One(unary, inner)))
-            }
-            Word::Open => {
-                let left = formula(arena, reader)?;
-                let binary = sign(reader)?;
-                let right = formula(arena, reader)?;
-                close(reader)?;
-                Ok(arena.push(Entry::Two(binary, left, right)))
-            }
-            _ => Err(Fault {
-                kind: FaultKind::Form,
-                offset: at,
-            }),
-        },
+    match reader.word()? {
+        (_, Word::Leaf(atom)) => Ok(arena.push(Entry::Leaf(atom))),
+        (_, Word::Prefix(unary)) => {
+            let inner = formula(arena, reader)?;
+            Ok(arena.push(Entry::One(unary, inner)))
+        }
+        (_, Word::Open) => {
+            let left = formula(arena, reader)?;
+            let binary = reader.sign()?;
+            let right = formula(arena, reader)?;
+            reader.close()?;
+            Ok(arena.push(Entry::Two(binary, left, right)))
+        }
+        (at, Word::Infix(_) | Word::Close) => Err(FaultKind::Form.at(at)),
     }
 }
 
 // Reads a text that is one formula and nothing after it.
 fn whole<'a>(list: SignalList<'a>, text: &'a [u8]) -> Result<Rule, Fault>
-    requires { length text.now ≤ 512 }
+    requires { length text.now ≤ LONGEST }
     ensures { Whole list.entry.bytes.now text.now result }
 {
     let mut reader = Reader::new(list, text);
     let mut arena = Arena::new();
     let _root = formula(&mut arena, &mut reader)?;
-    match next_word(&mut reader)? {
+    match reader.next_word()? {
         None => Ok(Rule { arena }),
-        Some((at, _)) => Err(Fault {
-            kind: FaultKind::Form,
-            offset: at,
-        }),
+        Some((at, _)) => Err(FaultKind::Form.at(at)),
     }
 }
 
@@ -74,7 +62,7 @@ impl Rule {
         ensures divides { Divides result }
         ensures grammar { Grammar }
     {
-        if text.len() == 0 || text.len() > LONGEST {
+        if text.is_empty() || text.len() > LONGEST {
             return Err(Refusal::Length);
         }
         Ok(whole(list, text)?)
@@ -84,13 +72,13 @@ impl Rule {
     pub fn size(&self) -> usize
         ensures { result ≡ size (formula_of self.now) }
     {
-        self.arena.len
+        self.arena.len()
     }
 
     // The formula entry by entry, operands before what they are operands of.
     pub fn entries(&self) -> &[Entry]
         ensures { Shows self.now result.now }
     {
-        &self.arena.entries[0..self.arena.len]
+        self.arena.entries()
     }
 }

@@ -1,9 +1,10 @@
 // Lists of signal names.
-ghost use Rattle.std.specs.Prelude.{◌≡◌, ℕ, ◌+◌, ◌<◌, ◌≤◌, [], length, Some, Decides};
+ghost use Rattle.std.specs.Prelude.{◌≡◌, ℕ, ◌+◌, ◌<◌, ◌≤◌, [], length, Some, MatchResult, IsTrue, ◌↔◌};
 ghost use Rattle.rules.specs.Letters.{is_name};
 ghost use Rattle.rules.specs.Signals.{names, words, number_of, Fits, joined, Lawful, Few, Proper, Distinct, Looked, Checked};
+ghost use Rattle.rules.specs.declared.refusal.Refusal.TheVariants.{List as BadList};
 
-use crate::letters::{Kind, run_end};
+use crate::letters::is_in_name;
 use crate::refusal::Refusal;
 
 // The names of a lawful list, or no names at all.
@@ -19,81 +20,52 @@ pub struct SignalList<'a> {
 fn is_name(word: &[u8]) -> bool
     ensures { result ≡ is_name word.now }
 {
-    word.len() > 0
-        && word.len() <= 8
-        && word[0] >= b'a'
-        && word[0] <= b'z'
-        && run_end(Kind::Name, word, 0) == word.len()
+    word.len() <= 8
+        && word.first().is_some_and(|byte| byte.is_ascii_lowercase())
+        && word.iter().all(|byte| is_in_name(*byte))
 }
 
 // The place of the first of the list's words that is `name`.
 fn place_of(bytes: &[u8], name: &[u8]) -> Option<usize>
     ensures { result ≡ number_of bytes.now name.now }
 {
-    if bytes.len() == 0 {
+    if bytes.is_empty() {
         return None;
     }
-    let mut from = 0;
-    let mut number = 0;
-    'words: loop {
-        let end = run_end(Kind::Word, bytes, from);
-        if &bytes[from..end] == name {
-            return Some(number);
-        }
-        if end >= bytes.len() {
-            return None;
-        }
-        from = end + 1;
-        number += 1;
-    }
-}
-
-// How many words stand between the spaces, empty ones too?
-fn count_words(bytes: &[u8]) -> usize
-    ensures { result ≡ length (words bytes.now) }
-{
-    let mut spaces = 0;
-    for b in bytes {
-        if *b == b' ' {
-            spaces += 1;
-        }
-    }
-    spaces + 1
-}
-
-// Is `name` first met at this place?
-fn is_numbered(bytes: &[u8], name: &[u8], number: usize) -> bool
-    ensures { Decides result (number_of bytes.now name.now ≡ Some number) }
-{
-    match place_of(bytes, name) {
-        Some(n) => n == number,
-        None => false,
-    }
+    bytes
+        .split(|byte| *byte == b' ')
+        .position(|word| word == name)
 }
 
 // May this word stand at this place?
 fn fits(bytes: &[u8], word: &[u8], number: usize) -> bool
-    ensures { Decides result (Fits bytes.now word.now number) }
+    ensures { IsTrue result ↔ Fits bytes.now word.now number }
 {
-    number < 16 && is_name(word) && is_numbered(bytes, word, number)
+    number < 16 && is_name(word) && place_of(bytes, word) == Some(number)
 }
 
 // Is the list lawful?
 fn is_lawful(bytes: &[u8]) -> bool
-    ensures { Decides result (Lawful bytes.now) }
+    ensures { IsTrue result ↔ Lawful bytes.now }
 {
-    let mut from = 0;
-    let mut number = 0;
-    'words: loop {
-        let end = run_end(Kind::Word, bytes, from);
-        if !fits(bytes, &bytes[from..end], number) {
-            return false;
+    bytes
+        .split(|byte| *byte == b' ')
+        .enumerate()
+        .all(|(number, word)| fits(bytes, word, number))
+}
+
+// The names of a lawful list; an unlawful one is refused.
+impl<'a> TryFrom<&'a [u8]> for SignalList<'a> {
+    type Error = Refusal;
+
+    ghost try_from_gives = { λ bytes r. MatchResult r (λ list. Lawful bytes.now × (list.bytes.now ≡ bytes.now)) (λ refusal. (Lawful bytes.now → ⊥) × (refusal ≡ BadList)) };
+
+    fn try_from(bytes: &'a [u8]) -> Result<SignalList<'a>, Refusal> {
+        if is_lawful(bytes) {
+            Ok(SignalList { bytes })
+        } else {
+            Err(Refusal::List)
         }
-        if end >= bytes.len() {
-            return true;
-        }
-        from = end + 1;
-        number += 1;
     }
 }
 
@@ -103,11 +75,7 @@ impl<'a> SignalList<'a> {
         ensures answer { Checked bytes.now result }
         ensures names { joined (names bytes.now) ≡ bytes.now }
     {
-        if is_lawful(bytes) {
-            Ok(())
-        } else {
-            Err(Refusal::List)
-        }
+        SignalList::try_from(bytes).map(|_| ())
     }
 
     // The names of the list; an unlawful list counts as no names.
@@ -115,22 +83,24 @@ impl<'a> SignalList<'a> {
         ensures lawful { Lawful bytes.now → result.bytes.now ≡ bytes.now }
         ensures unlawful { (Lawful bytes.now → ⊥) → result.bytes.now ≡ [] }
     {
-        if is_lawful(bytes) {
-            SignalList { bytes }
-        } else {
-            SignalList { bytes: &bytes[..0] }
-        }
+        SignalList::try_from(bytes).unwrap_or(SignalList { bytes: &[] })
     }
 
     // How many names there are.
     pub fn len(&self) -> u8
         ensures { result ≡ length (names self.now.bytes.now) }
     {
-        if self.bytes.len() == 0 {
-            0
-        } else {
-            count_words(self.bytes) as u8
+        if self.is_empty() {
+            return 0;
         }
+        self.bytes.split(|byte| *byte == b' ').count() as u8
+    }
+
+    // Are there no names?
+    pub fn is_empty(&self) -> bool
+        ensures { IsTrue result ↔ (names self.now.bytes.now ≡ []) }
+    {
+        self.bytes.is_empty()
     }
 
     // The number of the signal that is called `name`.
@@ -138,9 +108,6 @@ impl<'a> SignalList<'a> {
         ensures number { result ≡ number_of self.now.bytes.now name.now }
         ensures looked { Looked (names self.now.bytes.now) name.now result }
     {
-        match place_of(self.bytes, name) {
-            Some(n) => Some(n as u8),
-            None => None,
-        }
+        place_of(self.bytes, name).map(|number| number as u8)
     }
 }

@@ -11,11 +11,12 @@ use walk::outline::Outline;
 pub fn survey(heap: Global, outline: &Outline, limit: usize) -> Result<Vec<Node>, AllocError> {
     let mut nodes = Vec::new(heap);
     nodes.push(outline.initial())?;
+    // The list grows on the way, so its places are counted.
     for k in 0..limit {
-        match nodes.get(k).copied() {
-            Some(node) => visit(outline, node, limit, &mut nodes)?,
-            None => break,
-        }
+        let Some(node) = nodes.get(k).copied() else {
+            break;
+        };
+        visit(outline, node, limit, &mut nodes)?;
     }
     Ok(nodes)
 }
@@ -27,10 +28,9 @@ fn visit(
     limit: usize,
     nodes: &mut Vec<Node>,
 ) -> Result<(), AllocError> {
-    let mut walk = Branches::new(outline, node);
-    while let Some(branch) = walk.next_branch() {
+    for branch in Branches::new(outline, node) {
         if nodes.len() > limit {
-            return Ok(());
+            break;
         }
         if number_of(nodes.as_slice(), &branch.successor).is_none() {
             nodes.push(branch.successor)?;
@@ -41,11 +41,5 @@ fn visit(
 
 // Does a branch lead from one node to the other?
 pub fn leads(outline: &Outline, from: Node, to: Node) -> bool {
-    let mut walk = Branches::new(outline, from);
-    while let Some(branch) = walk.next_branch() {
-        if branch.successor == to {
-            return true;
-        }
-    }
-    false
+    Branches::new(outline, from).any(|branch| branch.successor == to)
 }

@@ -1,5 +1,5 @@
 -- The table of a question, and what it says.
-use Rattle.std.proofs.Common.{◌≡◌, ℕ, ◌-◌, ◌<◌, ◌≤◌, Bool, true, false, ◌↔◌, List, [], ◌∷◌, length, Ok, Err, Result, sym, refl, ap, ◌∙◌, subst, ap₂, inr, arith}
+use Rattle.std.proofs.Common.{◌≡◌, ℕ, ◌-◌, ◌<◌, ◌≤◌, Bool, true, false, ◌↔◌, List, [], length, Ok, Err, Result, Some, None, Option, IsSome, rules, sym, refl, ap, ◌∙◌, subst, ap₂, inr, arith}
 use Rattle.rules.specs.declared.refusal.Refusal.{Refusal}
 use Rattle.rules.specs.Formula.{Formula}
 use Rattle.rules.specs.Runs.{Holds, Run, at}
@@ -7,14 +7,18 @@ use Rattle.rules.specs.Rules.{formula_of}
 use Rattle.rules.specs.Signals.{Lawful}
 use Rattle.tables.specs.declared.limits.NormalRule.{NormalRule}
 use Rattle.tables.specs.declared.question.Question.{Question}
+use Rattle.tables.specs.declared.table.Draft.{Draft}
+use Rattle.tables.specs.declared.line.Line.{Line}
 use Rattle.tables.specs.Normal.{Normal, plain, nnf}
-use Rattle.tables.specs.Lines.{Lines, form, choices}
-use Rattle.tables.specs.Numbering.{place, tabled}
+use Rattle.tables.specs.Lines.{Lines, under, form, choices}
+use Rattle.tables.specs.Numbering.{Placed, enter, place, tabled}
+use Rattle.tables.specs.Tables.{drafted, Goes}
 use Rattle.tables.specs.Questions.{Asked, keeps, breaks, both, form_of, Meets, Lists, Asks, QuestionOf, StrictlyOf}
 use Rattle.tables.proofs.Forms.{form_once}
 use Rattle.tables.proofs.Places.{Tidy, none_tidy, placed}
 use Rattle.tables.proofs.Growth.{joined_lines, joined_choices, adds_lines}
 use Rattle.tables.proofs.Limited.{broken_length}
+use Rattle.tables.proofs.Laid.{both_number_under, and_place}
 use Rattle.tables.proofs.Normals.{normal_sound}
 
 -- a normal form is its own
@@ -85,9 +89,23 @@ tabled_some F = omega (arith, (placed F [] none_tidy).within)
 pub second_fits : (x y : NormalRule) (t : Lines) → Tidy t → t ≡ tabled (nnf true (formula_of x.rule)) → length (place (nnf false (formula_of y.rule)) t).table ≤ 121
 second_fits x y t d e = omega (arith, adds_lines (nnf false (formula_of y.rule)) t d, ap length e, alone_short x true, alone_short y false)
 
-pub no_bytes : (xs : List ℕ) → length xs ≡ 0 → xs ≡ []
-no_bytes [] h = refl
-no_bytes (x ∷ xs) h = absurd (omega arith)
+-- both sides were numbered, one after the other, from nothing
+module _ (x y : NormalRule) (s d u : Draft) (a b : ℕ) (none : drafted s ≡ [])
+    (left : place (nnf true (formula_of x.rule)) (drafted s) ≡ record { table = drafted d; at = a })
+    (right : place (nnf false (formula_of y.rule)) (drafted d) ≡ record { table = drafted u; at = b }) where
+  pub both_under : under u.len (Line.And a b) ≡ true
+  both_under = both_number_under s d u a b _ _ left right
+
+  pub both_placed : place (form_of (both (formula_of x.rule) (formula_of y.rule))) [] ≡ enter (Line.And a b) (drafted u)
+  both_placed = and_place _ _ (drafted s) (drafted d) (drafted u) a b none left right
+
+  -- so the line over both fits, and is the last of a table
+  pub both_fit : (v : Draft) (r : Option ℕ) → Goes (enter (Line.And a b) (drafted u)) (drafted v) r → IsSome r
+  both_fit v (Some k) h = search rules
+  both_fit v None h = absurd (omega (arith, h, ap (λ (p : Placed). length p.table) both_placed, both_short x y))
+
+  pub both_tabled : (v : Draft) (k : ℕ) → Goes (enter (Line.And a b) (drafted u)) (drafted v) (Some k) → drafted v ≡ tabled (form_of (both (formula_of x.rule) (formula_of y.rule)))
+  both_tabled v k h = sym (ap (λ (p : Placed). p.table) (both_placed ∙ h))
 
 -- a list that is lawful is read as it stands
 pub strictly : (ns ls x y : List ℕ) (r : Result Question Refusal) → Lawful ns → ls ≡ ns → QuestionOf ls x y r → StrictlyOf ns x y r

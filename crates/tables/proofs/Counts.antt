@@ -1,7 +1,11 @@
--- A count of the lines that pass a test, as a loop over the lines makes it.
-use Rattle.std.proofs.Common.{◌≡◌, ℕ, zero, suc, ◌+◌, ◌≤◌, Bool, true, false, cond, refl, ap, ◌∙◌, add-one, arith}
+-- A count of the lines that pass a test, and that of a chain of iterators.
+use Rattle.std.proofs.Common.{◌≡◌, ℕ, zero, suc, ◌+◌, ◌<◌, ◌≤◌, Bool, true, false, cond, length, take, Some, None, sym, refl, ap, ◌∙◌, add-one, arith}
+use Rattle.std.specs.List.{count_by}
+use Rattle.std.proofs.lemmas.List.{take_all}
+use Rattle.std.proofs.lemmas.List.Sums.{count_by_more_yes, count_by_more_no}
 use Rattle.tables.specs.declared.line.Line.{Line}
-use Rattle.tables.specs.Lines.{Lines, line, number}
+use Rattle.tables.specs.Lines.{Lines, line, is_eventuality, number, total}
+use Rattle.tables.specs.Tables.{eventuality}
 
 pub number_start : (q : Line → Bool) (t : Lines) → number q t 0 ≡ 0
 unfolding number
@@ -11,21 +15,22 @@ pub number_suc : (q : Line → Bool) (t : Lines) (k : ℕ) → number q t (suc k
 unfolding number
 number_suc q t k = refl
 
--- a line that passes, and one that does not
-pub number_pass : (q : Line → Bool) (t : Lines) (k n : ℕ) → n ≡ number q t k → q (line t k) ≡ true → n + 1 ≡ number q t (k + 1)
-number_pass q t k n e h =
-    let s : number q t (suc k) ≡ suc (number q t k) = number_suc q t k ∙ ap (λ (b : Bool). cond b (suc (number q t k)) (number q t k)) h in
-    omega (arith, s, ap (number q t) (add-one k))
+counts_step : (q : Line → Bool) (t : Lines) (k n : ℕ) → k < length t → n ≡ count_by q (take k t)
+    → (b : Bool) → q (line t k) ≡ b → cond b (suc n) n ≡ count_by q (take (k + 1) t)
+counts_step q t k n h e true p = omega (arith, count_by_more_yes q t k Line.True h p)
+counts_step q t k n h e false p = omega (arith, count_by_more_no q t k Line.True h p)
 
-pub number_skip : (q : Line → Bool) (t : Lines) (k n : ℕ) → n ≡ number q t k → q (line t k) ≡ false → n ≡ number q t (k + 1)
-number_skip q t k n e h =
-    let s : number q t (suc k) ≡ number q t k = number_suc q t k ∙ ap (λ (b : Bool). cond b (suc (number q t k)) (number q t k)) h in
-    omega (arith, s, ap (number q t) (add-one k))
+number_counts : (q : Line → Bool) (t : Lines) (k : ℕ) → k ≤ length t → number q t k ≡ count_by q (take k t)
+number_counts q t zero h = number_start q t
+number_counts q t (suc k) h =
+    number_suc q t k
+    ∙ counts_step q t k (number q t k) (omega arith) (number_counts q t k (omega arith)) (q (line t k)) refl
+    ∙ ap (λ (n : ℕ). count_by q (take n t)) (add-one k)
 
-step_most : (b : Bool) (n k : ℕ) → n ≤ k → cond b (suc n) n ≤ suc k
-step_most true n k h = omega arith
-step_most false n k h = omega arith
+pub total_counts : (q : Line → Bool) (t : Lines) → total q t ≡ count_by q t
+total_counts q t = number_counts q t (length t) (omega arith) ∙ ap (count_by q) (take_all (length t) t (omega arith))
 
-pub number_most : (q : Line → Bool) (t : Lines) (k : ℕ) → number q t k ≤ k
-number_most q t zero = omega (arith, number_start q t)
-number_most q t (suc k) = omega (arith, number_suc q t k, step_most (q (line t k)) (number q t k) k (number_most q t k))
+-- the number of an eventuality is the count of those before it
+pub eventuality_counts : (t : Lines) (k n : ℕ) → k < length t → is_eventuality (line t k) ≡ true → n ≡ count_by is_eventuality (take k t) → Some n ≡ eventuality t k
+eventuality_counts t k n h p e =
+    ap Some (e ∙ sym (number_counts is_eventuality t k (omega arith))) ∙ sym (ap (λ (b : Bool). cond b (Some (number is_eventuality t k)) None) p)

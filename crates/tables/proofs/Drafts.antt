@@ -1,17 +1,16 @@
 -- Entering a line into the first n lines of an array.
-use Rattle.std.proofs.Common.{◌≡◌, ℕ, suc, ◌+◌, ◌<◌, ◌≤◌, Bool, true, false, length, take, set, Decides, sym, refl, ap, ◌∙◌, subst, ap₂, inl, inr, arith}
-use Rattle.std.proofs.lemmas.Bool.{cases_lt, both_ways}
+use Rattle.std.proofs.Common.{◌≡◌, ℕ, ◌+◌, ◌<◌, ◌≤◌, max, Some, None, length, take, sym, ap, ◌∙◌, ap₂, inl, inr, arith}
+use Rattle.std.proofs.lemmas.Bool.{cases_lt}
 use Rattle.std.proofs.lemmas.List.{get_or-take, length-take-le, take_more_set}
 use Rattle.tables.specs.declared.line.Line.{Line}
-use Rattle.tables.specs.Keys.{Missing, First}
-use Rattle.tables.specs.Lines.{Lines, line, under, Earlier, Apart}
+use Rattle.tables.specs.Keys.{Missing, First, Numbered}
+use Rattle.tables.specs.Lines.{Lines, line}
 use Rattle.tables.specs.Numbering.{find, enter}
+use Rattle.tables.proofs.Lawful.{Equals, equal, unequal}
 use Rattle.tables.proofs.Same.{found, find_le, find_first}
-use Rattle.tables.proofs.Places.{length_one, earlier_more, apart_more, enter_old, enter_new, enter_at}
+use Rattle.tables.proofs.Places.{length_one, enter_old, enter_new, enter_at}
 
--- `==` tells whether two lines are the same
-module _ (E : Line → Line → Bool → Type 0) (law : (x y : Line) (t : Bool) → E x y t → Decides t (x ≡ y))
-    (xs : Lines) (n : ℕ) (l : Line) (h : n ≤ length xs) where
+module _ (xs : Lines) (n : ℕ) (l : Line) (h : n ≤ length xs) where
   abbrev t : Lines
   t = take n xs
 
@@ -22,42 +21,37 @@ module _ (E : Line → Line → Bool → Type 0) (law : (x y : Line) (t : Bool) 
   read k a = get_or-take n xs k Line.True a
 
   -- a line that is there is found
-  is_found : (i : ℕ) → First E xs l i → i < n → find l t ≡ i
+  is_found : (i : ℕ) → First Equals xs l i → i < n → find l t ≡ i
   is_found i f a =
-      let p : find l t ≤ i = find_first l t i (omega (arith, long)) (read i a ∙ (law _ l true (f.equal Line.True)).0 refl) in
+      let p : find l t ≤ i = find_first l t i (omega (arith, long)) (read i a ∙ equal _ l (f.equal Line.True)) in
       elim (cases_lt (find l t) i) [
-        | inl b ↦
-            let e : line xs (find l t) ≡ l = sym (read (find l t) (omega arith)) ∙ found l t (omega (arith, long)) in
-            absurd (both_ways false refl ((law _ l false (f.before (find l t) Line.True b)).1 e))
+        | inl b ↦ absurd (unequal _ l (f.before (find l t) Line.True b) (sym (read (find l t) (omega arith)) ∙ found l t (omega (arith, long))))
         | inr b ↦ omega arith
       ]
 
-  none_there : Missing E xs l n → (k : ℕ) → k < length t → line t k ≡ l → ⊥
-  none_there m k a e = both_ways false refl ((law _ l false (m k Line.True (omega (arith, long)))).1 (sym (read k (omega (arith, long))) ∙ e))
-
-  is_missing : Missing E xs l n → find l t ≡ length t
+  is_missing : Missing Equals xs l n → find l t ≡ length t
   is_missing m =
       elim (cases_lt (find l t) (length t)) [
-        | inl b ↦ absurd (none_there m (find l t) b (found l t b))
+        | inl b ↦ absurd (unequal _ l (m (find l t) Line.True (omega (arith, long))) (sym (read (find l t) (omega (arith, long))) ∙ found l t b))
         | inr b ↦ omega (arith, find_le l t)
       ]
 
   placed_at : (u : Lines) (k : ℕ) → (enter l t).table ≡ u → find l t ≡ k → enter l t ≡ record { table = u; at = k }
   placed_at u k e f = ap₂ (λ (x : Lines) (y : ℕ). record { table = x; at = y }) e (enter_at l t ∙ f)
 
-  pub enter_found : (i : ℕ) → First E xs l i → i < n → enter l t ≡ record { table = t; at = i }
-  enter_found i f a = let e = is_found i f a in placed_at t i (enter_old l t (omega (arith, e, long))) e
+  -- the array keeps its first n lines, or one more
+  pub numbered : (i : ℕ) (ys : Lines) → Numbered Equals xs n l (Some i) ys → enter l t ≡ record { table = take (max n (i + 1)) ys; at = i }
+  numbered i ys (inl z) =
+      let f : find l t ≡ i = is_found i z.0 z.1 in
+      let same : max n (i + 1) ≡ n = omega (arith, z.1) in
+      placed_at _ i (enter_old l t (omega (arith, f, long, z.1)) ∙ ap₂ (λ (k : ℕ) (zs : Lines). take k zs) (sym same) (sym z.2)) f
+  numbered i ys (inr z) =
+      let f : find l t ≡ length t = is_missing z.0 in
+      let more : max n (i + 1) ≡ n + 1 = omega (arith, z.1) in
+      placed_at _ i (enter_new l t (omega (arith, f)) ∙ sym (take_more_set xs n l z.2) ∙ ap₂ (λ (k : ℕ) (zs : Lines). take k zs) (sym more) (sym z.3))
+      (f ∙ long ∙ sym z.1)
 
-  pub enter_next : Missing E xs l n → n < length xs → enter l t ≡ record { table = take (n + 1) (set xs n l); at = n }
-  enter_next m a =
-      let e = is_missing m in
-      placed_at (take (n + 1) (set xs n l)) n (enter_new l t (omega (arith, e)) ∙ sym (take_more_set xs n l a)) (e ∙ long)
-
-  pub enter_full : Missing E xs l n → suc n ≤ length (enter l t).table
-  enter_full m = omega (arith, ap length (enter_new l t (omega (arith, is_missing m))), length_one t l, long)
-
-  pub next_earlier : n < length xs → Earlier t → under n l ≡ true → Earlier (take (n + 1) (set xs n l))
-  next_earlier a o u = subst Earlier (sym (take_more_set xs n l a)) (earlier_more t l o (subst (λ (k : ℕ). under k l ≡ true) (sym long) u))
-
-  pub next_apart : n < length xs → Apart t → Missing E xs l n → Apart (take (n + 1) (set xs n l))
-  next_apart a d m = subst Apart (sym (take_more_set xs n l a)) (apart_more t l d (none_there m))
+  pub full : (ys : Lines) → Numbered Equals xs n l None ys → length xs < length (enter l t).table
+  full ys z =
+      let f : find l t ≡ length t = is_missing (λ k d a. z.0 k d (omega (arith, h))) in
+      omega (arith, ap length (enter_new l t (omega (arith, f))), length_one t l, long, z.1)

@@ -1,6 +1,8 @@
 -- The normal form of the negation is the dual, line for line.
-use Rattle.std.proofs.Common.{◌≡◌, ℕ, zero, suc, ◌<◌, ◌≤◌, Bool, true, false, cond, not, ltb, [], ◌∷◌, ◌++◌, map, length, sym, refl, ap, ◌∙◌, ap₂, arith}
-use Rattle.std.proofs.lemmas.List.{map-append}
+use Rattle.std.proofs.Common.{◌≡◌, ℕ, zero, suc, ◌≤◌, Bool, true, false, cond, not, ltb, [], ◌∷◌, ◌++◌, map, length, sym, refl, ap, ◌∙◌, ap₂, arith}
+use Rattle.std.proofs.Math.Bool.{not-not}
+use Rattle.std.specs.Cmp.{both_ways}
+use Rattle.std.proofs.lemmas.List.{map-append, length-map, get_or-map}
 use Rattle.rules.specs.declared.syntax.Atom.TheVariants.{True, False, Signal}
 use Rattle.rules.specs.declared.syntax.Unary.TheVariants.{Not, Always, Eventually, Next}
 use Rattle.rules.specs.declared.syntax.Binary.TheVariants.{And, Or, Implies, Equivalent}
@@ -9,11 +11,8 @@ use Rattle.tables.specs.declared.line.Line.{Line}
 use Rattle.tables.specs.Normal.{Normal, nnf, dual}
 use Rattle.tables.specs.Lines.{Lines, line, number, is_choice, is_dual_choice, total, choices}
 use Rattle.tables.specs.Numbering.{same, find, Placed, enter, over, join, place, tabled}
+use Rattle.tables.specs.Parts.{turned}
 use Rattle.tables.proofs.Same.{same_true, same_from}
-
-not_not : (b : Bool) → not (not b) ≡ b
-not_not true = refl
-not_not false = refl
 
 nnf_turned : (f : Formula) (b : Bool) → nnf (not b) f ≡ dual (nnf b f)
 nnf_turned (atom True) true = refl
@@ -42,40 +41,21 @@ nnf_turned (binary Equivalent f g) false = ap₂ Normal.or (ap₂ Normal.and (nn
 pub nnf_dual : (f : Formula) → nnf false f ≡ dual (nnf true f)
 nnf_dual f = nnf_turned f true
 
-abbrev turned : Line → Line
-turned Line.True = Line.False
-turned Line.False = Line.True
-turned (Line.Literal s b) = Line.Literal s (not b)
-turned (Line.And i j) = Line.Or i j
-turned (Line.Or i j) = Line.And i j
-turned (Line.Always i) = Line.Eventually i
-turned (Line.Eventually i) = Line.Always i
-turned (Line.Next i) = Line.Next i
-
 twice : (l : Line) → turned (turned l) ≡ l
 twice Line.True = refl
 twice Line.False = refl
-twice (Line.Literal s b) = ap (Line.Literal s) (not_not b)
+twice (Line.Literal s b) = ap (Line.Literal s) (not-not b)
 twice (Line.And i j) = refl
 twice (Line.Or i j) = refl
 twice (Line.Always i) = refl
 twice (Line.Eventually i) = refl
 twice (Line.Next i) = refl
 
-both : (a b : Bool) → (a ≡ true → b ≡ true) → (b ≡ true → a ≡ true) → a ≡ b
-both true b f g = sym (f refl)
-both false true f g = g refl
-both false false f g = refl
-
 same_turned : (x y : Line) → same (turned x) (turned y) ≡ same x y
 same_turned x y =
-    both (same (turned x) (turned y)) (same x y)
+    both_ways (same (turned x) (turned y)) (same x y)
     (λ e. same_from x y (sym (twice x) ∙ ap turned (same_true (turned x) (turned y) e) ∙ twice y))
     (λ e. same_from (turned x) (turned y) (ap turned (same_true x y e)))
-
-length_turned : (t : Lines) → length (map turned t) ≡ length t
-length_turned [] = refl
-length_turned (x ∷ t) = ap suc (length_turned t)
 
 find_turned : (l : Line) (t : Lines) → find (turned l) (map turned t) ≡ find l t
 unfolding find
@@ -93,7 +73,7 @@ enter_turned : (l : Line) (t : Lines) → enter (turned l) (map turned t) ≡ ab
 unfolding enter
 enter_turned l t =
     let f = find_turned l t in
-    let b : ltb (find (turned l) (map turned t)) (length (map turned t)) ≡ ltb (find l t) (length t) = ap₂ ltb f (length_turned t) in
+    let b : ltb (find (turned l) (map turned t)) (length (map turned t)) ≡ ltb (find l t) (length t) = ap₂ ltb f (length-map t turned) in
     ap₂ (λ (x : Lines) (n : ℕ). record { table = x; at = n })
     (ap₂ (λ (c : Bool) (u : Lines). cond c (map turned t) u) b (sym (map-append turned t (l ∷ []))) ∙ map_cond (ltb (find l t) (length t)) t (t ++ (l ∷ []))) f
 
@@ -128,11 +108,6 @@ place_turned (Normal.next f) = over_turned Line.Next Line.Next (λ i. refl) (pla
 tabled_dual : (F : Normal) → tabled (dual F) ≡ map turned (tabled F)
 tabled_dual F = ap (λ (r : Placed). r.table) (place_turned F [])
 
-line_turned : (t : Lines) (k : ℕ) → k < length t → line (map turned t) k ≡ turned (line t k)
-line_turned [] k h = absurd (omega arith)
-line_turned (x ∷ t) zero h = refl
-line_turned (x ∷ t) (suc k) h = line_turned t k (omega arith)
-
 choice_turned : (l : Line) → is_choice (turned l) ≡ is_dual_choice l
 choice_turned Line.True = refl
 choice_turned Line.False = refl
@@ -147,11 +122,11 @@ number_turned : (t : Lines) (k : ℕ) → k ≤ length t → number is_choice (m
 unfolding number
 number_turned t zero h = refl
 number_turned t (suc k) h =
-    ap₂ (λ (b : Bool) (n : ℕ). cond b (suc n) n) (ap is_choice (line_turned t k (omega arith)) ∙ choice_turned (line t k)) (number_turned t k (omega arith))
+    ap₂ (λ (b : Bool) (n : ℕ). cond b (suc n) n) (ap is_choice (get_or-map turned t k Line.True Line.True (omega arith)) ∙ choice_turned (line t k)) (number_turned t k (omega arith))
 
 pub length_dual : (F : Normal) → length (tabled (dual F)) ≡ length (tabled F)
-length_dual F = ap length (tabled_dual F) ∙ length_turned (tabled F)
+length_dual F = ap length (tabled_dual F) ∙ length-map (tabled F) turned
 
 pub choices_dual : (F : Normal) → choices (tabled (dual F)) ≡ total is_dual_choice (tabled F)
 choices_dual F =
-    ap choices (tabled_dual F) ∙ ap (number is_choice (map turned (tabled F))) (length_turned (tabled F)) ∙ number_turned (tabled F) (length (tabled F)) (omega arith)
+    ap choices (tabled_dual F) ∙ ap (number is_choice (map turned (tabled F))) (length-map (tabled F) turned) ∙ number_turned (tabled F) (length (tabled F)) (omega arith)

@@ -1,6 +1,7 @@
 -- A line stands for the normal form that its kind makes of its operands' forms, and for no other line's.
 use Rattle.std.proofs.Common.{◌≡◌, ℕ, zero, suc, ◌+◌, ◌<◌, true, false, List, [], ◌∷◌, ◌++◌, length, get_or, sym, refl, ap, ◌∙◌, subst, ap₂, inl, inr, add-zero, zero-add, arith, length-append}
 use lib.ListN.{get_or-append}
+use Rattle.std.proofs.Math.Seq.{get_or-append_seam}
 use Rattle.std.proofs.lemmas.Bool.{and_parts, ltb-true, cases_order}
 use Rattle.tables.specs.declared.line.Line.{Line}
 use Rattle.tables.specs.Normal.{Normal}
@@ -34,10 +35,6 @@ module _ {A : Type 0} (d : A) (b : Line → (ℕ → A) → A)
       values_keeps t (done ++ (b x (nth done) ∷ [])) k (simp length-append (omega arith))
       ∙ get_or-append done (b x (nth done) ∷ []) d k l
 
-  last_at : (done : List A) (f : A) → nth (done ++ (f ∷ [])) (length done) ≡ f
-  last_at [] f = refl
-  last_at (x ∷ done) f = last_at done f
-
   values_from : (t : Lines) (done : List A) (k : ℕ) → k < length t → under (length done + k) (line t k) ≡ true
       → nth (values d b t done) (length done + k) ≡ b (line t k) (nth (values d b t done))
   unfolding values
@@ -48,7 +45,7 @@ module _ {A : Type 0} (d : A) (b : Line → (ℕ → A) → A)
       let e : length done' ≡ suc (length done) = length-append done (b x (nth done) ∷ []) ∙ omega arith in
       ap (nth (values d b t done')) (add-zero (length done))
       ∙ values_keeps t done' (length done) (omega arith)
-      ∙ last_at done (b x (nth done))
+      ∙ get_or-append_seam done (b x (nth done)) [] d
       ∙ b-same x (length done) (nth done) (nth (values d b t done')) u'
       (λ i l. sym (values_keeps t done' i (omega arith) ∙ get_or-append done (b x (nth done) ∷ []) d i l))
   values_from (x ∷ t) done (suc k) l u =

@@ -1,41 +1,28 @@
 -- Numbering after other lines adds no more lines than numbering alone.
 use Rattle.std.proofs.Common.{◌≡◌, ℕ, zero, suc, ◌+◌, ◌<◌, ◌≤◌, Bool, true, false, cond, ◌&&◌, ◌||◌, eqb, ltb, [], ◌∷◌, ◌++◌, length, sym, refl, ap, ◌∙◌, ap₂, inl, inr, arith}
-use lib.ListN.{get_or-append}
 use Rattle.std.proofs.lemmas.Bool.{cases_lt, and_from, lt-ltb}
 use Rattle.tables.specs.declared.line.Line.{Line}
 use Rattle.tables.specs.Normal.{Normal}
 use Rattle.tables.specs.Lines.{Lines, under, form, number, is_choice, total, choices}
 use Rattle.tables.specs.Numbering.{kind, find, Placed, enter, over, join, place, tabled}
-use Rattle.tables.proofs.Counts.{number_start, number_suc}
+use Rattle.std.proofs.lemmas.List.Sums.{sum_by_push}
+use Rattle.tables.proofs.Counts.{number_start, total_counts}
 use Rattle.tables.proofs.Forms.{form_once}
-use Rattle.tables.proofs.Places.{length_one, last_line, Tidy, none_tidy, Entered, enter_old, enter_new, enter_at, entered, keeps, longer, Placing, placed}
+use Rattle.tables.proofs.Places.{length_one, Tidy, none_tidy, Entered, enter_old, enter_new, enter_at, entered, keeps, longer, Placing, placed}
 
-number_front : (q : Line → Bool) (t more : Lines) (k : ℕ) → k ≤ length t → number q (t ++ more) k ≡ number q t k
-unfolding number
-number_front q t more zero h = refl
-number_front q t more (suc k) h =
-    ap₂ (λ (l : Line) (n : ℕ). cond (q l) (suc n) n) (get_or-append t more Line.True k (omega arith)) (number_front q t more k (omega arith))
-
-pub total_one : (q : Line → Bool) (t : Lines) (l : Line) → total q (t ++ (l ∷ [])) ≡ cond (q l) (suc (total q t)) (total q t)
-total_one q t l =
-    let u : Lines = t ++ (l ∷ []) in
-    ap (number q u) (length_one t l) ∙ number_suc q u (length t)
-    ∙ ap₂ (λ (x : Line) (n : ℕ). cond (q x) (suc n) n) (last_line t l) (number_front q t (l ∷ []) (length t) (omega arith))
+pub total_one : (q : Line → Bool) (t : Lines) (l : Line) → total q (t ++ (l ∷ [])) ≡ total q t + cond (q l) 1 0
+total_one q t l = total_counts q (t ++ (l ∷ [])) ∙ sum_by_push (λ x. cond (q x) 1 0) t l ∙ ap (λ (n : ℕ). n + cond (q l) 1 0) (sym (total_counts q t))
 
 pub number_all : (t : Lines) (k : ℕ) → number (λ l. true) t k ≡ k
 unfolding number
 number_all t zero = refl
 number_all t (suc k) = ap suc (number_all t k)
 
-step_up : (b : Bool) (n : ℕ) → n ≤ cond b (suc n) n
-step_up true n = omega arith
-step_up false n = omega arith
-
 pub enter_grows : (q : Line → Bool) (l : Line) (t : Lines) → total q t ≤ total q (enter l t).table
 enter_grows q l t =
     elim (cases_lt (find l t) (length t)) [
       | inl h ↦ omega (arith, ap (total q) (enter_old l t h))
-      | inr h ↦ omega (arith, ap (total q) (enter_new l t h) ∙ total_one q t l, step_up (q l) (total q t))
+      | inr h ↦ omega (arith, ap (total q) (enter_new l t h) ∙ total_one q t l)
     ]
 
 pub length_grows : (l : Line) (t : Lines) → length t ≤ length (enter l t).table
@@ -51,12 +38,6 @@ module _ (q : Line → Bool) (by_kind : (l m : Line) → kind l ≡ kind m → q
   Leaner p =
       (s t : Lines) → Tidy s → Tidy t → Inside s t
       → Inside (p s).table (p t).table × (total q (p t).table + total q s ≤ total q t + total q (p s).table)
-
-  both_new : (a b : Bool) (s t : ℕ) → a ≡ b → cond b (suc t) t + s ≤ t + cond a (suc s) s
-  both_new true true s t e = omega arith
-  both_new false false s t e = omega arith
-  both_new true false s t e = let z : ◌≡◌ {A = ℕ} (cond true 0 1) (cond false 0 1) = ap (λ (x : Bool). cond {A = ℕ} x 0 1) e in absurd (omega arith)
-  both_new false true s t e = let z : ◌≡◌ {A = ℕ} (cond false 0 1) (cond true 0 1) = ap (λ (x : Bool). cond {A = ℕ} x 0 1) e in absurd (omega arith)
 
   -- a line of the same form and kind is entered into both
   lean_enter : (s t : Lines) (l m : Line) (H : Normal) → Inside s t → Entered l s (enter l s) → Entered m t (enter m t) → kind l ≡ kind m
@@ -86,7 +67,7 @@ module _ (q : Line → Bool) (by_kind : (l m : Line) → kind l ≡ kind m → q
                   arith,
                   ap (total q) (enter_new m t a) ∙ total_one q t m,
                   ap (total q) (enter_new l s b) ∙ total_one q s l,
-                  both_new (q l) (q m) (total q s) (total q t) (by_kind l m same_kind),
+                  ap (λ (b : Bool). cond {A = ℕ} b 1 0) (by_kind l m same_kind),
                 )
           ]
         ],

@@ -4,7 +4,6 @@ pub mod Places
 pub mod Normals
 pub mod Growth
 pub mod Duals
-pub mod Keys
 pub mod Counts
 pub mod Lawful
 pub mod Drafts

@@ -1,6 +1,7 @@
 -- The lines of a normal form: one for each of its parts, and the last for itself.
 use Rattle.std.proofs.Common.{◌≡◌, ℕ, suc, ◌<◌, ◌≤◌, true, ◌&&◌, ltb, ◌⊎◌, [], ◌∷◌, ◌++◌, length, sym, refl, ap, ◌∙◌, subst, ap₂, inl, inr, append_assoc, append-nil, arith, length-append}
 use lib.ListN.{get_or-append}
+use Rattle.std.proofs.Math.Seq.{get_or-append_seam}
 use Rattle.std.proofs.lemmas.Bool.{cases_lt, and_from, ltb-true, lt-ltb, cond-true, cond-false, le-ltb}
 use Rattle.tables.specs.declared.line.Line.{Line}
 use Rattle.tables.specs.Normal.{Normal, Part}
@@ -8,13 +9,6 @@ use Rattle.tables.specs.Lines.{Lines, line, under, Earlier, Apart, build, form}
 use Rattle.tables.specs.Numbering.{find, Placed, enter, over, join, place}
 use Rattle.tables.proofs.Same.{found, find_le, find_first}
 use Rattle.tables.proofs.Forms.{sides, form_at, form_more, form_once}
-
-pub last_line : (t : Lines) (l : Line) → line (t ++ (l ∷ [])) (length t) ≡ l
-last_line [] l = refl
-last_line (x ∷ t) l = last_line t l
-
-pub first_lines : (t : Lines) (l : Line) (k : ℕ) → k < length t → line (t ++ (l ∷ [])) k ≡ line t k
-first_lines t l k h = get_or-append t (l ∷ []) Line.True k h
 
 pub length_one : (t : Lines) (l : Line) → length (t ++ (l ∷ [])) ≡ suc (length t)
 length_one t l = length-append t (l ∷ []) ∙ omega arith
@@ -24,10 +18,10 @@ pub more_lines : (P : ℕ → Line → Type 0) (t : Lines) (l : Line) → ((k : 
     → (k : ℕ) → k < length (t ++ (l ∷ [])) → P k (line (t ++ (l ∷ [])) k)
 more_lines P t l old new k h =
     elim (cases_lt k (length t)) [
-      | inl a ↦ subst (P k) (sym (first_lines t l k a)) (old k a)
+      | inl a ↦ subst (P k) (sym (get_or-append t (l ∷ []) Line.True k a)) (old k a)
       | inr a ↦
           let e : k ≡ length t = omega (arith, length_one t l) in
-          subst (λ (j : ℕ). P j (line (t ++ (l ∷ [])) j)) (sym e) (subst (P (length t)) (sym (last_line t l)) new)
+          subst (λ (j : ℕ). P j (line (t ++ (l ∷ [])) j)) (sym e) (subst (P (length t)) (sym (get_or-append_seam t l [] Line.True)) new)
     ]
 
 pub earlier_more : (t : Lines) (l : Line) → Earlier t → under (length t) l ≡ true → Earlier (t ++ (l ∷ []))
@@ -37,10 +31,10 @@ pub apart_more : (t : Lines) (l : Line) → Apart t → ((k : ℕ) → k < lengt
 apart_more t l d none a b p q e =
     let low : a < length t = omega (arith, length_one t l) in
     elim (cases_lt b (length t)) [
-      | inl y ↦ d a b p y (sym (first_lines t l a low) ∙ e ∙ first_lines t l b y)
+      | inl y ↦ d a b p y (sym (get_or-append t (l ∷ []) Line.True a low) ∙ e ∙ get_or-append t (l ∷ []) Line.True b y)
       | inr y ↦
           let top : b ≡ length t = omega (arith, length_one t l) in
-          none a low (sym (first_lines t l a low) ∙ e ∙ ap (line (t ++ (l ∷ []))) top ∙ last_line t l)
+          none a low (sym (get_or-append t (l ∷ []) Line.True a low) ∙ e ∙ ap (line (t ++ (l ∷ []))) top ∙ get_or-append_seam t l [] Line.True)
     ]
 
 -- operands are earlier lines, and no two lines are alike
@@ -101,7 +95,7 @@ entered l t o u =
             extends = e;
             tidy = subst Tidy (sym e) (record { earlier = earlier_more t l o.earlier u; apart = apart_more t l o.apart none });
             within = omega arith;
-            is = ap₂ line e (at-it ∙ f) ∙ last_line t l;
+            is = ap₂ line e (at-it ∙ f) ∙ get_or-append_seam t l [] Line.True;
             new = λ k a b. omega arith;
             grown = λ g. omega arith;
             fresh = λ m. omega arith;

@@ -1,12 +1,11 @@
 pub mod Normal
 pub mod Lines
-pub mod Sorts
 pub mod Numbering
 pub mod Limits
 pub mod Keys
 pub mod Tables
 pub mod Memos
-pub mod Steps
+pub mod Parts
 pub mod Questions
 pub mod Rows
 pub mod Laws

@@ -1,5 +1,6 @@
 -- Normal forms: negation stands before signals only, and there is no > and no =.
 use Rattle.std.specs.Prelude.{◌≡◌, ℕ, Bool, true, false, not, ◌⊎◌}
+use Rattle.std.specs.Coded.{Coded-set, coded_ℕ, coded_bool}
 use Rattle.rules.specs.declared.syntax.Atom.TheVariants.{True, False, Signal}
 use Rattle.rules.specs.declared.syntax.Unary.TheVariants.{Not, Always, Eventually, Next}
 use Rattle.rules.specs.declared.syntax.Binary.TheVariants.{And, Or, Implies, Equivalent}
@@ -11,6 +12,11 @@ pub data Normal : Type 0 where
   literal : ℕ → Bool → Normal
   and or : Normal → Normal → Normal
   always eventually next : Normal → Normal
+  deriving IsSet as Normal-derived
+
+-- any two proofs that two normal forms are equal are the same
+pub Normal-set : IsSet Normal
+Normal-set = Normal-derived (Coded-set coded_ℕ) (Coded-set coded_bool)
 
 -- the formula that a normal form is
 abbrev pub plain : Normal → Formula

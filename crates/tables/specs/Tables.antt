@@ -6,13 +6,13 @@ use Rattle.tables.specs.declared.table.Draft.{Draft}
 use Rattle.tables.specs.Lines.{Lines, line, under, is_eventuality, number, Lawful}
 use Rattle.tables.specs.Numbering.{Placed}
 
--- the lines of a table
-abbrev pub lines_of : Table → Lines
-lines_of t = take t.len t.lines
-
 -- the lines that are drafted
 abbrev pub drafted : Draft → Lines
 drafted d = take d.len d.lines
+
+-- the lines of a table
+abbrev pub lines_of : Table → Lines
+lines_of t = drafted t.draft
 
 -- a line that may come next: there is room, its operands are there, and it is new
 abbrev pub Next : Lines → Line → Type 0
@@ -36,3 +36,8 @@ eventuality t k = cond (is_eventuality (line t k)) (Some (number is_eventuality 
 abbrev pub Goes : Placed → Lines → Option ℕ → Type 0
 Goes p u (Some k) = p ≡ record { table = u; at = k }
 Goes p u None = 121 < length p.table
+
+-- the same, where the lines after it are handed out in a draft beside the number
+abbrev pub Leads : Placed → Option (Draft × ℕ) → Type 0
+Leads p (Some r) = p ≡ record { table = drafted r.0; at = r.1 }
+Leads p None = 121 < length p.table

@@ -14,6 +14,5 @@ mod normal;
 pub mod numbering;
 pub mod question;
 mod read;
-mod step;
 pub mod table;
 mod view;

@@ -4,45 +4,41 @@ ghost use Rattle.tables.specs.Memos.{known, learnt};
 
 use rules::rule::LONGEST;
 
-// A rule has no more entries than its text has bytes.
+// An entry of a rule by its number, and its sign: where that is false, the entry is negated.
+#[derive(Clone, Copy)]
+pub(crate) struct Signed(pub(crate) u16, pub(crate) bool);
+
+// For each entry two places, for its negation and for itself. A rule has no more entries than its text has bytes.
 #[derive(Drop)]
 pub(crate) struct Memo {
-    pub(crate) plain: [Option<u8>; LONGEST],
-    pub(crate) negated: [Option<u8>; LONGEST],
+    pub(crate) numbers: [[Option<u8>; 2]; LONGEST],
 }
 
 impl Memo {
     // Nothing is known.
     pub(crate) fn new() -> Memo
-        ensures { (result.plain ≡ replicate 512 None) × (result.negated ≡ replicate 512 None) }
+        ensures { result.numbers ≡ replicate 512 (replicate 2 None) }
     {
         Memo {
-            plain: [None; LONGEST],
-            negated: [None; LONGEST],
+            numbers: [[None; 2]; LONGEST],
         }
     }
 
-    // The number of the line of an entry, or of its negation.
-    pub(crate) fn recall(&self, entry: usize, sign: bool) -> Option<u8>
-        requires { entry < 512 }
-        ensures { result ≡ known self.now sign entry }
+    // The number of the line of a signed entry.
+    pub(crate) fn recall(&self, part: Signed) -> Option<u8>
+        requires { part.0 < 512 }
+        ensures { result ≡ known self.now part.1 part.0 }
     {
-        if sign {
-            self.plain[entry]
-        } else {
-            self.negated[entry]
-        }
+        let Signed(entry, sign) = part;
+        self.numbers[entry as usize][usize::from(sign)]
     }
 
-    // Keeps the number of the line of an entry, or of its negation.
-    pub(crate) fn learn(&mut self, entry: usize, sign: bool, number: u8)
-        requires { entry < 512 }
-        ensures { self.new ≡ learnt self.old sign entry number }
+    // Keeps the number of the line of a signed entry.
+    pub(crate) fn learn(&mut self, part: Signed, number: u8)
+        requires { part.0 < 512 }
+        ensures { self.new ≡ learnt self.old part.1 part.0 number }
     {
-        if sign {
-            self.plain[entry] = Some(number);
-        } else {
-            self.negated[entry] = Some(number);
-        }
+        let Signed(entry, sign) = part;
+        self.numbers[entry as usize][usize::from(sign)] = Some(number);
     }
 }

@@ -1,89 +1,123 @@
 // The lines of normal forms, numbered: left side, right side, then the form itself.
-ghost use Rattle.std.specs.Prelude.{◌≡◌, ◌<◌, true, length};
+ghost use Rattle.std.specs.Prelude.{◌≡◌, ◌<◌, ◌≤◌, true, length};
+ghost use Rattle.rules.specs.Entries.{Ordered};
 ghost use Rattle.rules.specs.Rules.{formula_of};
-ghost use Rattle.tables.specs.Memos.{Remembers};
+ghost use Rattle.tables.specs.Lines.{under};
+ghost use Rattle.tables.specs.Memos.{Remembers, Remembers-prop};
 ghost use Rattle.tables.specs.Normal.{nnf};
-ghost use Rattle.tables.specs.Steps.{joint_form, shape, inside, formulas, Readable, Went};
-ghost use Rattle.tables.specs.Tables.{drafted, Goes};
-ghost use Rattle.tables.specs.Numbering.{place};
+ghost use Rattle.tables.specs.Numbering.{enter, place};
+ghost use Rattle.tables.specs.Parts.{signed, joined, formulas, form_at, Told, Told-prop};
+ghost use Rattle.tables.specs.Tables.{drafted, Goes, Leads};
 
-use crate::memo::Memo;
-use crate::step::{Joint, Step};
+use crate::line::Line;
+use crate::memo::{Memo, Signed};
 use crate::table::Draft;
 use rules::arena::Rule;
-use rules::syntax::Entry;
+use rules::syntax::{Binary, Entry, Unary};
 
-// Numbers the form of an entry, or of its negation, and gives the number of its line; `None` past 121 lines.
-#[cycle(lay_pair_place)]
-fn place(
-    entries: &[Entry],
-    draft: &mut Draft,
-    memo: &mut Memo,
-    entry: u16,
-    sign: bool,
-) -> Option<u8>
-    requires { (Readable entries.now) × ((entry < length entries.now) × (Remembers (formulas entries.now) memo.old (drafted draft.old))) }
-    ensures { Went (formulas entries.now) (nnf sign (formulas entries.now entry)) (drafted draft.old) (drafted draft.new) memo.new result }
-{
-    let at = entry as usize;
-    if let Some(number) = memo.recall(at, sign) {
-        return Some(number);
+// A rule's entries while they are numbered: the lines so far, and which of them the entries are known to have.
+#[derive(Drop)]
+struct Numberer<'a> {
+    entries: &'a [Entry],
+    draft: Draft,
+    memo: Memo,
+    ghost few: { length entries.now ≤ 512 },
+    ghost ordered: { Ordered entries.now (length entries.now) },
+    ghost told: { Told entries.now } by { Told-prop entries.now },
+    ghost remembered: { Remembers (formulas entries.now) memo (drafted draft) } by { Remembers-prop (formulas entries.now) memo (drafted draft) },
+}
+
+impl Numberer<'_> {
+    // Enters a line, or its dual where the sign is false.
+    fn enter(&mut self, line: Line, sign: bool) -> Option<u8>
+        requires { under self.old.draft.len line ≡ true }
+        ensures goes { Goes (enter (signed sign line) (drafted self.old.draft)) (drafted self.new.draft) result }
+        ensures entries { self.new.entries ≡ self.old.entries }
+    {
+        self.draft.enter(line.signed(sign))
     }
-    let number = lay(entries, draft, memo, Step::of(entries[at], sign))?;
-    memo.learn(at, sign, number);
-    Some(number)
-}
 
-// Numbers the form that a step makes.
-#[cycle(lay_pair_place)]
-fn lay(entries: &[Entry], draft: &mut Draft, memo: &mut Memo, step: Step) -> Option<u8>
-    requires { (Readable entries.now) × ((inside (length entries.now) step ≡ true) × (Remembers (formulas entries.now) memo.old (drafted draft.old))) }
-    ensures { Went (formulas entries.now) (shape (formulas entries.now) step) (drafted draft.old) (drafted draft.new) memo.new result }
-{
-    match step {
-        Step::Leaf(line) => draft.enter(line),
-        Step::Same(inner, sign) => place(entries, draft, memo, inner, sign),
-        Step::Over(mode, inner, sign) => {
-            let number = place(entries, draft, memo, inner, sign)?;
-            draft.enter(mode.line(number))
+    // Numbers the form of a signed entry, unless its number is known; `None` past 121 lines.
+    #[cycle(place_lay_join)]
+    fn place(&mut self, part: Signed) -> Option<u8>
+        requires { part.0 < length self.old.entries.now }
+        ensures goes { Goes (place (form_at self.old.entries.now part) (drafted self.old.draft)) (drafted self.new.draft) result }
+        ensures entries { self.new.entries ≡ self.old.entries }
+    {
+        if let Some(number) = self.memo.recall(part) {
+            return Some(number);
         }
-        Step::Join(joint, left, plain, right, sign) => pair(
-            entries, draft, memo, joint, left, plain, right, sign,
-        ),
-        Step::Twice(inner, outer, left, right, sign) => {
-            let first = pair(entries, draft, memo, inner, left, sign, right, sign)?;
-            let second = pair(entries, draft, memo, inner, left, !sign, right, !sign)?;
-            draft.enter(outer.line(first, second))
+        let number = self.lay(part)?;
+        self.memo.learn(part, number);
+        Some(number)
+    }
+
+    // Numbers those of its operands, and then the line over them.
+    #[cycle(place_lay_join)]
+    fn lay(&mut self, part: Signed) -> Option<u8>
+        requires { part.0 < length self.old.entries.now }
+        ensures goes { Goes (place (form_at self.old.entries.now part) (drafted self.old.draft)) (drafted self.new.draft) result }
+        ensures entries { self.new.entries ≡ self.old.entries }
+    {
+        let Signed(entry, sign) = part;
+        match self.entries[entry as usize] {
+            Entry::Leaf(atom) => self.enter(Line::from(atom), sign),
+            Entry::One(Unary::Not, inner) => self.place(Signed(inner, !sign)),
+            Entry::One(Unary::Always, inner) => {
+                let inner = self.place(Signed(inner, sign))?;
+                self.enter(Line::Always(inner), sign)
+            }
+            Entry::One(Unary::Eventually, inner) => {
+                let inner = self.place(Signed(inner, sign))?;
+                self.enter(Line::Eventually(inner), sign)
+            }
+            Entry::One(Unary::Next, inner) => {
+                let inner = self.place(Signed(inner, sign))?;
+                self.enter(Line::Next(inner), sign)
+            }
+            Entry::Two(Binary::And, left, right) => {
+                self.join(Signed(left, sign), Signed(right, sign), sign)
+            }
+            Entry::Two(Binary::Or, left, right) => {
+                self.join(Signed(left, sign), Signed(right, sign), !sign)
+            }
+            Entry::Two(Binary::Implies, left, right) => {
+                self.join(Signed(left, !sign), Signed(right, sign), !sign)
+            }
+            Entry::Two(Binary::Equivalent, left, right) => {
+                let alike = self.join(Signed(left, sign), Signed(right, sign), sign)?;
+                let opposite = self.join(Signed(left, !sign), Signed(right, !sign), sign)?;
+                self.enter(Line::Or(alike, opposite), sign)
+            }
         }
+    }
+
+    // Numbers the forms of two signed entries, and then ∧ over both, or ∨ where the sign is false.
+    #[cycle(place_lay_join)]
+    fn join(&mut self, left: Signed, right: Signed, sign: bool) -> Option<u8>
+        requires left { left.0 < length self.old.entries.now }
+        requires right { right.0 < length self.old.entries.now }
+        ensures goes { Goes (place (joined sign (form_at self.old.entries.now left) (form_at self.old.entries.now right)) (drafted self.old.draft)) (drafted self.new.draft) result }
+        ensures entries { self.new.entries ≡ self.old.entries }
+    {
+        let left = self.place(left)?;
+        let right = self.place(right)?;
+        self.enter(Line::And(left, right), sign)
     }
 }
 
-// Numbers the forms of two entries, and then the line over both.
-#[cycle(lay_pair_place)]
-fn pair(
-    entries: &[Entry],
-    draft: &mut Draft,
-    memo: &mut Memo,
-    joint: Joint,
-    left: u16,
-    left_sign: bool,
-    right: u16,
-    right_sign: bool,
-) -> Option<u8>
-    requires { (Readable entries.now) × ((left < length entries.now) × ((right < length entries.now) × (Remembers (formulas entries.now) memo.old (drafted draft.old)))) }
-    ensures { Went (formulas entries.now) (joint_form joint (nnf left_sign (formulas entries.now left)) (nnf right_sign (formulas entries.now right))) (drafted draft.old) (drafted draft.new) memo.new result }
-{
-    let first = place(entries, draft, memo, left, left_sign)?;
-    let second = place(entries, draft, memo, right, right_sign)?;
-    draft.enter(joint.line(first, second))
-}
-
-// Numbers the form of a rule, or of its negation, after the lines that are there.
-pub(crate) fn number_rule(rule: &Rule, draft: &mut Draft, sign: bool) -> Option<u8>
-    ensures { Goes (place (nnf sign (formula_of rule.now)) (drafted draft.old)) (drafted draft.new) result }
+// Numbers the form of a rule, or of its negation, after the lines that are there, and gives them all and its number; `None`
+// past 121 lines.
+pub(crate) fn number_rule(rule: &Rule, draft: Draft, sign: bool) -> Option<(Draft, u8)>
+    ensures { Leads (place (nnf sign (formula_of rule.now)) (drafted draft)) result }
 {
     let entries = rule.entries();
-    let last = entries.len() - 1;
-    let mut memo = Memo::new();
-    place(entries, draft, &mut memo, last as u16, sign)
+    let last = Signed((entries.len() - 1) as u16, sign);
+    let mut numberer = Numberer {
+        entries,
+        draft,
+        memo: Memo::new(),
+    };
+    let number = numberer.place(last)?;
+    Some((numberer.draft, number))
 }

@@ -6,12 +6,7 @@ ghost use Rattle.std.specs.Prelude.{◌≡◌};
 pub fn number_of<K: PartialEq>(keys: &[K], key: &K) -> Option<usize>
     ensures { Sought (λ x' y' r'. r' ≡ K.PartialEq.eq x' y') keys.now key.now result }
 {
-    for (number, other) in keys.iter().enumerate() {
-        if *other == *key {
-            return Some(number);
-        }
-    }
-    None
+    keys.iter().position(|other| other == key)
 }
 
 // Of the keys in the slice the first `used` have numbers. `key` has the number of the one that equals it, or becomes the next,
@@ -19,16 +14,13 @@ pub fn number_of<K: PartialEq>(keys: &[K], key: &K) -> Option<usize>
 pub fn number<K: PartialEq + Copy>(keys: &mut [K], used: usize, key: K) -> Option<usize>
     ensures { Numbered (λ x' y' r'. r' ≡ K.PartialEq.eq x' y') keys.old used key result keys.new }
 {
-    let room = keys.len();
-    let numbered = if used < room { used } else { room };
-    match number_of(&keys[0..numbered], &key) {
+    let numbered = used.min(keys.len());
+    match number_of(&keys[..numbered], &key) {
         Some(number) => Some(number),
-        None => {
-            if numbered == room {
-                return None;
-            }
+        None if numbered < keys.len() => {
             keys[numbered] = key;
             Some(numbered)
         }
+        None => None,
     }
 }

@@ -1,10 +1,13 @@
 // Making a table of given lines, and reading one.
 ghost use Rattle.std.specs.Prelude.{◌≡◌, ◌-◌, length, Decides};
+ghost use Rattle.std.specs.Cmp.{on_per};
+ghost use Rattle.std.specs.Cmp.Lexicographic.{pointwise, lists_per};
+ghost use Rattle.std.specs.Ordering.{on};
+ghost use Rattle.tables.specs.contracts.line.LinePartialEq.TheImpl.Laws.{laws-law};
 ghost use Rattle.tables.specs.Lines.{line, Lawful, choices};
 ghost use Rattle.tables.specs.Tables.{lines_of, MadeOf, At, eventuality};
 
-use crate::draft::count;
-use crate::line::{Line, Sort};
+use crate::line::Line;
 use crate::table::{Draft, TABLE_CHOICES, Table};
 
 impl Table {
@@ -14,11 +17,9 @@ impl Table {
     {
         let mut draft = Draft::new();
         for line in lines {
-            if !draft.push(*line) {
-                return None;
-            }
+            draft.push(*line)?;
         }
-        if lines.len() == 0 || count(lines, Sort::Choice) > TABLE_CHOICES {
+        if lines.is_empty() || draft.choices() > TABLE_CHOICES {
             return None;
         }
         Some(draft.table())
@@ -29,32 +30,28 @@ impl Table {
         ensures are { result.now ≡ lines_of self.now }
         ensures lawful { Lawful result.now }
     {
-        &self.lines[0..self.len]
+        self.draft.lines()
     }
 
     // The line with this number.
     pub fn line(&self, number: usize) -> Option<Line>
         ensures { At (lines_of self.now) number result }
     {
-        if number < self.len {
-            Some(self.lines[number])
-        } else {
-            None
-        }
+        self.lines().get(number).copied()
     }
 
     // The last line, which stands for the whole.
     pub fn last(&self) -> Line
         ensures { result ≡ line (lines_of self.now) (length (lines_of self.now) - 1) }
     {
-        self.lines[self.len - 1]
+        self.lines().last().copied().unwrap()
     }
 
     // How many of the lines are choice lines.
     pub fn choices(&self) -> usize
         ensures { result ≡ choices (lines_of self.now) }
     {
-        count(self.lines(), Sort::Choice)
+        self.draft.choices()
     }
 
     // The number of a line among the eventualities, where it is one.
@@ -62,17 +59,28 @@ impl Table {
         ensures { result ≡ eventuality (lines_of self.now) number }
     {
         let lines = self.lines();
-        if number < lines.len() && lines[number].is_eventuality() {
-            Some(count(&lines[0..number], Sort::Eventuality))
-        } else {
-            None
+        if !lines.get(number)?.is_eventuality() {
+            return None;
         }
+        let before = &lines[..number];
+        Some(before.iter().filter(|line| line.is_eventuality()).count())
     }
 
     // Are the lines of both the same?
     pub fn same(&self, other: &Table) -> bool
         ensures { Decides result (lines_of self.now ≡ lines_of other.now) }
     {
+        self == other
+    }
+}
+
+// Tables are equal where their lines are, whatever stands in the arrays past them.
+impl PartialEq for Table {
+    ghost eq = { on lines_of (pointwise ⟦<Line as PartialEq>⟧.eq) };
+
+    ghost laws = { on_per lines_of (lists_per laws-law) };
+
+    fn eq(&self, other: &Table) -> bool {
         self.lines() == other.lines()
     }
 }

@@ -6,13 +6,9 @@ use tables::question::Question;
 
 // The lines and choice lines of a rule's normal form, or the refusal.
 fn measured(text: &[u8]) -> Result<(usize, usize), Refusal> {
-    match NormalRule::read(SignalList::lenient(b"p q"), text) {
-        Ok(rule) => {
-            let table = Question::keep(&rule).table;
-            Ok((table.lines().len(), table.choices()))
-        }
-        Err(refusal) => Err(refusal),
-    }
+    let rule = NormalRule::read(SignalList::lenient(b"p q"), text)?;
+    let table = Question::keep(&rule).table;
+    Ok((table.lines().len(), table.choices()))
 }
 
 #[test]

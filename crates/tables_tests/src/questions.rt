@@ -6,18 +6,12 @@ use tables::table::Table;
 
 // Does the question have exactly these lines?
 fn has_lines(x: &[u8], y: &[u8], lines: &[Line]) -> bool {
-    match Question::read_strictly(b"p q", x, y) {
-        Ok(question) => question.table.lines() == lines,
-        Err(_) => false,
-    }
+    Question::read_strictly(b"p q", x, y).is_ok_and(|question| question.table.lines() == lines)
 }
 
 // Is the question refused so?
 fn is_refused(list: &[u8], x: &[u8], y: &[u8], refusal: Refusal) -> bool {
-    match Question::read_strictly(list, x, y) {
-        Ok(_) => false,
-        Err(found) => found == refusal,
-    }
+    Question::read_strictly(list, x, y).is_err_and(|found| found == refusal)
 }
 
 #[test]

@@ -3,3 +3,4 @@
 
 mod line;
 pub mod rows;
+mod run;

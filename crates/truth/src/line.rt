@@ -7,7 +7,7 @@ ghost use Rattle.std.specs.Prelude.{◌≡◌, ℕ, ◌<◌, true, length, Decid
 ghost use Rattle.graph.specs.Sets.{has};
 ghost use Rattle.truth.specs.Passes.{told, Begins, marked};
 
-use graph::sets::{has, has16, with};
+use graph::sets::{has, with};
 use tables::line::Line;
 
 // Is line k true, by its row, the row after and its position?
@@ -17,7 +17,7 @@ pub(crate) fn told(line: Line, k: u8, row: u128, after: u128, position: u16) -> 
     match line {
         Line::True => true,
         Line::False => false,
-        Line::Literal(signal, positive) => has16(position, signal) == positive,
+        Line::Literal(signal, positive) => has(position, signal) == positive,
         Line::And(x, y) => has(row, x) && has(row, y),
         Line::Or(x, y) => has(row, x) || has(row, y),
         Line::Always(x) => has(row, x) && has(after, k),
@@ -31,34 +31,10 @@ pub(crate) fn begins(line: Line, cycle: &[u128]) -> bool
     ensures { Begins line cycle.now result }
 {
     match line {
-        Line::Always(x) => in_all(cycle, x),
-        Line::Eventually(x) => in_some(cycle, x),
+        Line::Always(x) => cycle.iter().all(|row| has(*row, x)),
+        Line::Eventually(x) => cycle.iter().any(|row| has(*row, x)),
         _ => false,
     }
-}
-
-// Has every row the line x?
-fn in_all(rows: &[u128], x: u8) -> bool
-    ensures { Decides result ((j : ℕ) → j < length rows.now → has (slice_index rows.now j) x ≡ true) }
-{
-    for row in rows {
-        if !has(*row, x) {
-            return false;
-        }
-    }
-    true
-}
-
-// Has some row the line x?
-fn in_some(rows: &[u128], x: u8) -> bool
-    ensures { Decides result ((j : ℕ) × (j < length rows.now) × (has (slice_index rows.now j) x ≡ true)) }
-{
-    for row in rows {
-        if has(*row, x) {
-            return true;
-        }
-    }
-    false
 }
 
 // The row, with line k where it is true.

@@ -1,2 +1,5 @@
-pub mod Hex
+pub mod Faults
+pub mod Fields
+pub mod Tables
 pub mod Answers
+pub mod Records

@@ -1,123 +1,102 @@
 // How a rule is answered, by a row's last eight fields.
-ghost use Rattle.std.specs.Prelude.{◌≡◌};
-ghost use Rattle.vectors.specs.Answers.{number, nodes, offset};
+ghost use Rattle.std.specs.Prelude.{◌≡◌, ◌↔◌, [], ◌∷◌, IfOk, IsTrue};
+ghost use Rattle.rules.specs.Refusals.{told, offset_of};
+ghost use Rattle.vectors.specs.Answers.{nodes, counted, none_given, refusal_fields, answer_fields, texts};
 
 use crate::fault::Fault;
-use crate::fields::number;
-use std::fmt;
+use crate::fields::{given, number};
+use rules::refusal::Refusal;
 
-// A refusal of reading carries the fault's offset where it has one.
-#[derive(Clone, Copy)]
-pub enum Answer {
-    Accepted(Measures),
-    Length,
-    Letter(usize),
-    Signal(usize),
-    Form(usize),
-    Lines,
-    Choices,
-    List,
+// What is said of an accepted rule, or why it is refused.
+pub type Answer = Result<Measures, Refusal>;
+
+// What is said of an accepted rule: its counts, and what a search for a run that keeps it gives.
+#[derive(Clone, Copy, Debug, PartialEq, Eq)]
+pub struct Measures {
+    pub counts: Counts,
+    pub verdict: Verdict,
 }
 
-// What is said of an accepted rule: lines and choices of its normal form and of its negation's,
-// and what a search for a run that keeps it gives.
-#[derive(Clone, Copy)]
-pub struct Measures {
+// The lines and choice lines of a rule's normal form, and of that of its negation.
+#[derive(Clone, Copy, Debug, PartialEq, Eq)]
+pub struct Counts {
     pub lines: usize,
     pub choices: usize,
     pub negation_lines: usize,
     pub negation_choices: usize,
-    pub verdict: Verdict,
 }
 
-// There is a run or none, by a graph of so many nodes; or the graph has more than 1,024.
-#[derive(Clone, Copy)]
+// There is a run or none, by a graph of so many nodes; or the graph has more than 1,024. Three cases, so no `Option` or
+// `Result` of its own.
+#[derive(Clone, Copy, Debug, PartialEq, Eq)]
 pub enum Verdict {
     Run(usize),
     None(usize),
     Spent,
 }
 
-impl Answer {
-    // Reads the fields: measures stand exactly where the rule is accepted.
-    pub fn read(fields: &[&str]) -> Result<Answer, Fault> {
-        match fields {
-            [refusal, offset, measures @ ..] if *refusal == "0" && *offset == "-" => Ok(
-                Answer::Accepted(Measures::read(measures)?),
-            ),
-            [refusal, offset, measures @ ..] if not_given(measures) => refused(refusal, offset),
-            _ => Err(Fault::Malformed),
-        }
-    }
-
-    // The refusal's number, or 0.
-    pub fn number(&self) -> u8
-        ensures { result ≡ number self.now }
-    {
-        match self {
-            Answer::Accepted(_) => 0,
-            Answer::Length => 5,
-            Answer::Letter(_) => 6,
-            Answer::Signal(_) => 7,
-            Answer::Form(_) => 8,
-            Answer::Lines => 9,
-            Answer::Choices => 10,
-            Answer::List => 13,
-        }
-    }
-
-    // How many nodes the graph has, where that is said.
-    pub fn nodes(&self) -> Option<usize>
-        ensures { result ≡ nodes self.now }
-    {
-        match self {
-            Answer::Accepted(measures) => match measures.verdict {
-                Verdict::Run(nodes) => Some(nodes),
-                Verdict::None(nodes) => Some(nodes),
-                Verdict::Spent => None,
-            },
-            _ => None,
-        }
-    }
-
-    // The offset of the fault, where the refusal has one.
-    pub fn offset(&self) -> Option<usize>
-        ensures { result ≡ offset self.now }
-    {
-        match self {
-            Answer::Letter(at) | Answer::Signal(at) | Answer::Form(at) => Some(*at),
-            _ => None,
-        }
+// Reads the fields: measures stand exactly where the rule is accepted.
+pub fn read_answer(fields: &[&str]) -> Result<Answer, Fault>
+    ensures { IfOk result (λ answer. answer_fields answer ≡ texts fields.now) }
+{
+    match fields {
+        ["0", "-", measures @ ..] => Ok(Ok(Measures::try_from(measures)?)),
+        _ => Ok(Err(read_refusal(fields)?)),
     }
 }
 
-// Is none of the six fields given?
-fn not_given(measures: &[&str]) -> bool {
-    for field in measures {
-        if *field != "-" {
-            return false;
+// Reads the fields of a refusal: its number and its offset, and no measures.
+fn read_refusal(fields: &[&str]) -> Result<Refusal, Fault>
+    ensures { IfOk result (λ refusal. refusal_fields refusal ≡ texts fields.now) }
+{
+    match fields {
+        [refusal, offset, measures @ ..] if none_given(measures) => {
+            refused(number(refusal)?, given(offset)?)
         }
-    }
-    measures.len() == 6
-}
-
-// A refusal by its number, with an offset exactly where it has one.
-fn refused(refusal: &str, offset: &str) -> Result<Answer, Fault> {
-    match (refusal, offset) {
-        ("5", "-") => Ok(Answer::Length),
-        ("6", at) => Ok(Answer::Letter(number(at)?)),
-        ("7", at) => Ok(Answer::Signal(number(at)?)),
-        ("8", at) => Ok(Answer::Form(number(at)?)),
-        ("9", "-") => Ok(Answer::Lines),
-        ("10", "-") => Ok(Answer::Choices),
-        ("13", "-") => Ok(Answer::List),
         _ => Err(Fault::Malformed),
     }
 }
 
-impl Measures {
-    // Reads the six fields.
-    fn read(fields: &[&str]) -> Result<Measures, Fault> {
+// Is none of the six measures given?
+fn none_given(measures: &[&str]) -> bool
+    ensures { IsTrue result ↔ (texts measures.now ≡ none_given) }
+{
+    matches!(measures, ["-", "-", "-", "-", "-", "-"])
+}
+
+// A refusal by its number, with an offset exactly where it has one.
+fn refused(number: usize, offset: Option<usize>) -> Result<Refusal, Fault>
+    ensures number { IfOk result (λ r. (told r).0 ≡ number) }
+    ensures offset { IfOk result (λ r. offset_of r ≡ offset) }
+{
+    match (number, offset) {
+        (5, None) => Ok(Refusal::Length),
+        (6, Some(at)) => Ok(Refusal::Letter(at)),
+        (7, Some(at)) => Ok(Refusal::Signal(at)),
+        (8, Some(at)) => Ok(Refusal::Form(at)),
+        (9, None) => Ok(Refusal::Lines),
+        (10, None) => Ok(Refusal::Choices),
+        (13, None) => Ok(Refusal::List),
+        _ => Err(Fault::Malformed),
+    }
+}
+
+// How many nodes the graph has, where that is said.
+pub fn nodes(answer: &Answer) -> Option<usize>
+    ensures { result ≡ nodes answer.now }
+{
+    answer.ok().and_then(|measures| measures.verdict.nodes())
+}
+
+impl TryFrom<&[&str]> for Measures {
+    type Error = Fault;
+
+    ghost use Rattle.vectors.specs.Answers.{measures_fields, texts};
+
+    ghost try_from_gives = { λ fields r. IfOk r (λ m. measures_fields m ≡ texts fields.now) };
+
+    // Reads six fields.
+    fn try_from(fields: &[&str]) -> Result<Measures, Fault> {
         match fields {
             [
                 lines,
@@ -127,35 +106,45 @@ impl Measures {
                 nodes,
                 verdict,
             ] => Ok(Measures {
-                lines: number(lines)?,
-                choices: number(choices)?,
-                negation_lines: number(negation_lines)?,
-                negation_choices: number(negation_choices)?,
-                verdict: Verdict::read(nodes, verdict)?,
+                counts: Counts {
+                    lines: number(lines)?,
+                    choices: number(choices)?,
+                    negation_lines: number(negation_lines)?,
+                    negation_choices: number(negation_choices)?,
+                },
+                verdict: Verdict::try_from((*nodes, *verdict))?,
             }),
             _ => Err(Fault::Malformed),
         }
     }
 }
 
-impl Verdict {
+impl TryFrom<(&str, &str)> for Verdict {
+    type Error = Fault;
+
+    ghost use Rattle.vectors.specs.Answers.{verdict_fields};
+
+    ghost try_from_gives = { λ fields r. IfOk r (λ v. verdict_fields v ≡ fields.0.now ∷ fields.1.now ∷ []) };
+
     // Reads two fields, the nodes and the word.
-    fn read(nodes: &str, verdict: &str) -> Result<Verdict, Fault> {
-        match (nodes, verdict) {
-            (_, "run") => Ok(Verdict::Run(number(nodes)?)),
-            (_, "none") => Ok(Verdict::None(number(nodes)?)),
-            (">1024", "spent") => Ok(Verdict::Spent),
+    fn try_from((nodes, word): (&str, &str)) -> Result<Verdict, Fault> {
+        match word {
+            "run" => Ok(Verdict::Run(number(nodes)?)),
+            "none" => Ok(Verdict::None(number(nodes)?)),
+            "spent" if nodes == ">1024" => Ok(Verdict::Spent),
             _ => Err(Fault::Malformed),
         }
     }
 }
 
-impl fmt::Display for Answer {
-    fn fmt<W: fmt::Write>(&self, f: &mut fmt::Formatter<W>) -> fmt::Result {
-        let number = self.number();
-        match self.offset() {
-            Some(offset) => write!(f, "{number} at {offset}"),
-            None => write!(f, "{number}"),
+impl Verdict {
+    // How many nodes there are, where that is said.
+    fn nodes(&self) -> Option<usize>
+        ensures { result ≡ counted self.now }
+    {
+        match *self {
+            Verdict::Run(nodes) | Verdict::None(nodes) => Some(nodes),
+            Verdict::Spent => None,
         }
     }
 }

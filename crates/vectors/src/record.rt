@@ -1,4 +1,7 @@
 // Records on the questions of two texts, and what is answered to them.
+ghost use Rattle.std.specs.Prelude.{◌≡◌, ◌↔◌, IfOk, IsTrue, decimal};
+ghost use Rattle.vectors.specs.Records.{number, Fits};
+
 use crate::fault::Fault;
 use crate::fields::number;
 use judge::judge::judge;
@@ -20,45 +23,38 @@ pub struct RecordCase {
 }
 
 // What is answered to a record: what it shows, or a refusal by its number.
-#[derive(Clone, Copy)]
-pub enum Judgement {
-    Shows(Verdict),
-    Refused(usize),
-}
+pub type Judgement = Result<Verdict, usize>;
 
-impl Judgement {
-    // Reads a number: 0 is "none", 255 is "run", and any other is a refusal's.
-    pub fn read(field: &str) -> Result<Judgement, Fault> {
-        match number(field)? {
-            0 => Ok(Judgement::Shows(Verdict::None)),
-            255 => Ok(Judgement::Shows(Verdict::Run)),
-            refusal => Ok(Judgement::Refused(refusal)),
-        }
-    }
-
-    // Does what was found fit?
-    pub fn fits(&self, found: Result<Verdict, Refusal>) -> bool {
-        match (self, found) {
-            (Judgement::Shows(Verdict::Run), Ok(Verdict::Run)) => true,
-            (Judgement::Shows(Verdict::None), Ok(Verdict::None)) => true,
-            (Judgement::Refused(number), Err(refusal)) => *number == refusal.number() as usize,
-            _ => false,
-        }
+// Reads a number: 0 is "none", 255 is "run", and any other is a refusal's.
+pub fn read_judgement(field: &str) -> Result<Judgement, Fault>
+    ensures { IfOk result (λ judgement. decimal (number judgement) ≡ field.now) }
+{
+    match number(field)? {
+        0 => Ok(Ok(Verdict::None)),
+        255 => Ok(Ok(Verdict::Run)),
+        refusal => Ok(Err(refusal)),
     }
 }
 
 impl RecordCase {
+    // Does what was found fit?
+    pub fn fits(&self, found: Result<Verdict, Refusal>) -> bool
+        ensures { IsTrue result ↔ Fits self.now.answer found }
+    {
+        self.answer == found.map_err(|refusal| usize::from(refusal.number()))
+    }
+
     // What the library answers. A table of texts has an outline, since a lawful list has at most 16 names.
     pub fn judge(&self) -> Result<Verdict, Refusal> {
         let list = self.list.as_slice();
         let question = Question::read_strictly(list, self.kept.as_slice(), self.broken.as_slice())?;
-        match Outline::of(&question.table) {
-            Some(outline) => {
-                let mut work = Workspace::new();
-                let signals = SignalList::lenient(list).len();
-                judge(&outline, signals, self.record.as_slice(), &mut work)
-            }
-            None => Err(Refusal::List),
-        }
+        let outline = Outline::of(&question.table).ok_or(Refusal::List)?;
+        let signals = SignalList::lenient(list).len();
+        judge(
+            &outline,
+            signals,
+            self.record.as_slice(),
+            &mut Workspace::new(),
+        )
     }
 }

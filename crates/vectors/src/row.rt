@@ -3,9 +3,9 @@
 //   rule LIST TEXT REFUSAL OFFSET LINES CHOICES NEGLINES NEGCHOICES NODES VERDICT
 //   list BYTES lawful|unlawful
 //   ask LIST LINES LIMIT ANSWER NODES
-use crate::answer::Answer;
+use crate::answer::{Answer, read_answer};
 use crate::fault::Fault;
-use crate::fields::{bytes, number};
+use crate::fields::{bytes, given};
 use crate::lines::read_lines;
 use std::alloc::Global;
 use std::str::from_utf8;
@@ -47,7 +47,7 @@ pub struct ListCase {
 impl Row {
     // Reads a line, which has exactly the fields of its kind.
     pub fn read(heap: Global, line: &[u8]) -> Result<Row, Fault> {
-        if line.first() == Some(&b'#') {
+        if line.starts_with(b"#") {
             return Ok(Row::Comment);
         }
         let fields: Vec<&str> = from_utf8(line)?.split(' ').collect(heap)?;
@@ -55,11 +55,11 @@ impl Row {
             ["rule", list, text, answer @ ..] => Ok(Row::Rule(RuleCase {
                 list: bytes(heap, list)?,
                 text: bytes(heap, text)?,
-                answer: Answer::read(answer)?,
+                answer: read_answer(answer)?,
             })),
-            ["list", list, lawful] => Ok(Row::List(ListCase {
+            ["list", list, lawful @ ("lawful" | "unlawful")] => Ok(Row::List(ListCase {
                 list: bytes(heap, list)?,
-                lawful: is_lawful(lawful)?,
+                lawful: *lawful == "lawful",
             })),
             ["ask", list, lines, _, _, nodes] => {
                 let _list = bytes(heap, list)?;
@@ -70,22 +70,5 @@ impl Row {
             }
             _ => Err(Fault::Malformed),
         }
-    }
-}
-
-// Is a list said to be lawful?
-fn is_lawful(field: &str) -> Result<bool, Fault> {
-    match field {
-        "lawful" => Ok(true),
-        "unlawful" => Ok(false),
-        _ => Err(Fault::Malformed),
-    }
-}
-
-// A number, or that it is not given.
-fn given(field: &str) -> Result<Option<usize>, Fault> {
-    match field {
-        "-" => Ok(None),
-        _ => Ok(Some(number(field)?)),
     }
 }

@@ -1,50 +1,77 @@
 // Counts the cases in which the library agrees, by kind, and tells of each other one.
-use crate::answer::Answer;
-use crate::check::{Counts, agrees, judge, nodes_of_rule, nodes_of_table};
+use crate::answer::{Answer, Counts, nodes};
+use crate::check::{agrees, judge, nodes_of_rule, nodes_of_table};
 use crate::fault::Fault;
 use crate::row::{AskCase, ListCase, Row, RuleCase};
 use rules::refusal::Refusal;
 use rules::signals::SignalList;
-use std::alloc::AllocError;
+use std::alloc::{AllocError, Global};
+use std::collections::BTreeMap;
 use std::{fmt, io};
 use tables::table::Table;
 
-// The counts so far.
-#[derive(Drop)]
-pub struct Tally {
-    // the row at hand, by its line's number
-    row: u64,
-    accepted: u64,
-    length: u64,
-    letter: u64,
-    signal: u64,
-    form: u64,
-    lines: u64,
-    choices: u64,
-    list: u64,
-    lawful: u64,
-    unlawful: u64,
-    tables: u64,
-    disagreements: u64,
+// What a case is counted under: a rule that is accepted, or refused under this word; a list; or a table.
+#[derive(Clone, Copy, Debug, PartialEq, Eq, PartialOrd, Ord)]
+enum Kind {
+    Accepted,
+    Refused(&'static str),
+    Lawful,
+    Unlawful,
+    Table,
 }
 
-// What the library found.
-#[derive(Clone, Copy)]
-struct Found(Result<Counts, Refusal>);
+impl From<&Answer> for Kind {
+    fn from(answer: &Answer) -> Kind {
+        match answer {
+            Ok(_) => Kind::Accepted,
+            Err(refusal) => Kind::Refused(refusal.word()),
+        }
+    }
+}
 
-impl fmt::Display for Found {
+impl fmt::Display for Kind {
+    fn fmt<W: fmt::Write>(&self, f: &mut fmt::Formatter<W>) -> fmt::Result {
+        match *self {
+            Kind::Accepted => write!(f, "accepted"),
+            Kind::Refused(word) => write!(f, "{word}"),
+            Kind::Lawful => write!(f, "lists lawful"),
+            Kind::Unlawful => write!(f, "lists unlawful"),
+            Kind::Table => write!(f, "tables"),
+        }
+    }
+}
+
+// In what the library differs from a row.
+#[derive(Clone, Copy)]
+enum Difference {
+    Malformed,
+    Rule { expected: Told, found: Told },
+    List { lawful: bool },
+    NoTable,
+    Nodes,
+}
+
+impl fmt::Display for Difference {
+    fn fmt<W: fmt::Write>(&self, f: &mut fmt::Formatter<W>) -> fmt::Result {
+        match *self {
+            Difference::Malformed => write!(f, "malformed"),
+            Difference::Rule { expected, found } => write!(f, "expected {expected}, found {found}"),
+            Difference::List { lawful } => write!(f, "the list is lawful: {lawful}"),
+            Difference::NoTable => write!(f, "the lines are no table"),
+            Difference::Nodes => write!(f, "other nodes"),
+        }
+    }
+}
+
+// What is told of a rule: that it is accepted, with its counts where they are known, or the refusal.
+#[derive(Clone, Copy)]
+struct Told(Result<Option<Counts>, Refusal>);
+
+impl fmt::Display for Told {
     fn fmt<W: fmt::Write>(&self, f: &mut fmt::Formatter<W>) -> fmt::Result {
         match self.0 {
-            Ok(counts) => {
-                let lines = counts.lines;
-                let choices = counts.choices;
-                let negation_lines = counts.negation_lines;
-                let negation_choices = counts.negation_choices;
-                write!(
-                    f,
-                    "0 with {lines} {choices} {negation_lines} {negation_choices}"
-                )
-            }
+            Ok(None) => write!(f, "0"),
+            Ok(Some(counts)) => write!(f, "0 with {counts}"),
             Err(refusal) => {
                 let number = refusal.number();
                 match refusal.offset() {
@@ -56,130 +83,121 @@ impl fmt::Display for Found {
     }
 }
 
-// One more.
-fn up(count: &mut u64) {
-    *count = count.saturating_add(1);
+impl fmt::Display for Counts {
+    fn fmt<W: fmt::Write>(&self, f: &mut fmt::Formatter<W>) -> fmt::Result {
+        let Counts {
+            lines,
+            choices,
+            negation_lines,
+            negation_choices,
+        } = *self;
+        write!(f, "{lines} {choices} {negation_lines} {negation_choices}")
+    }
+}
+
+// The counts so far.
+#[derive(Drop)]
+pub struct Tally {
+    // the row at hand, by its line's number
+    row: u64,
+    agreements: BTreeMap<Kind, u64>,
+    disagreements: u64,
 }
 
 impl Tally {
     // Nothing is counted yet.
-    pub fn new() -> Tally {
+    pub fn new(heap: Global) -> Tally {
         Tally {
             row: 0,
-            accepted: 0,
-            length: 0,
-            letter: 0,
-            signal: 0,
-            form: 0,
-            lines: 0,
-            choices: 0,
-            list: 0,
-            lawful: 0,
-            unlawful: 0,
-            tables: 0,
+            agreements: BTreeMap::new(heap),
             disagreements: 0,
         }
     }
 
     // Takes the next line; one that is no row counts as a disagreement.
-    pub fn take(&mut self, rt: &HostRuntime, line: &[u8]) -> io::Result<()> {
-        up(&mut self.row);
+    pub fn take(&mut self, rt: &(impl Print + AllocGlobal), line: &[u8]) -> io::Result<()> {
+        self.row = self.row.saturating_add(1);
         match Row::read(rt.alloc(), line) {
             Ok(Row::Comment) => Ok(()),
             Ok(Row::Rule(case)) => self.rule(rt, &case),
             Ok(Row::List(case)) => self.list(rt, &case),
             Ok(Row::Ask(case)) => self.ask(rt, &case),
-            Err(Fault::Malformed) => {
-                up(&mut self.disagreements);
-                let row = self.row;
-                println!(rt; "row {row}: malformed")
-            }
+            Err(Fault::Malformed) => self.differ(rt, Difference::Malformed),
             Err(Fault::Memory) => Err(AllocError.into()),
         }
     }
 
     // Counts a rule, or tells where the library differs.
-    fn rule(&mut self, rt: &HostRuntime, case: &RuleCase) -> io::Result<()> {
+    fn rule(&mut self, rt: &(impl Print + AllocGlobal), case: &RuleCase) -> io::Result<()> {
         let answer = case.answer;
         let found = judge(case.list.as_slice(), case.text.as_slice());
-        let nodes = nodes_of_rule(rt.alloc(), case.list.as_slice(), case.text.as_slice())?;
-        if agrees(&answer, &found) && nodes == answer.nodes() {
-            up(self.of(&answer));
-            return Ok(());
+        let found_nodes = nodes_of_rule(rt.alloc(), case.list.as_slice(), case.text.as_slice())?;
+        if agrees(&answer, &found) && found_nodes == nodes(&answer) {
+            return self.agree(Kind::from(&answer));
         }
-        up(&mut self.disagreements);
-        let row = self.row;
-        let found = Found(found);
-        println!(rt; "row {row}: expected {answer}, found {found}")
-    }
-
-    // The count of a kind of answer.
-    fn of(&mut self, answer: &Answer) -> &mut u64 {
-        match answer {
-            Answer::Accepted(_) => &mut self.accepted,
-            Answer::Length => &mut self.length,
-            Answer::Letter(_) => &mut self.letter,
-            Answer::Signal(_) => &mut self.signal,
-            Answer::Form(_) => &mut self.form,
-            Answer::Lines => &mut self.lines,
-            Answer::Choices => &mut self.choices,
-            Answer::List => &mut self.list,
-        }
+        let expected = Told(answer.map(|_| None));
+        let found = Told(found.map(Some));
+        self.differ(rt, Difference::Rule { expected, found })
     }
 
     // Counts a list, or tells where the library differs.
-    fn list(&mut self, rt: &HostRuntime, case: &ListCase) -> io::Result<()> {
+    fn list(&mut self, rt: &impl Print, case: &ListCase) -> io::Result<()> {
         let lawful = SignalList::check(case.list.as_slice()).is_ok();
         if lawful != case.lawful {
-            up(&mut self.disagreements);
-            let row = self.row;
-            println!(rt; "row {row}: the list is lawful: {lawful}")?;
-        } else if lawful {
-            up(&mut self.lawful);
-        } else {
-            up(&mut self.unlawful);
+            return self.differ(rt, Difference::List { lawful });
         }
-        Ok(())
+        self.agree(if lawful { Kind::Lawful } else { Kind::Unlawful })
     }
 
     // Counts a table that is one, with its nodes where they are said, or tells that it is not.
-    fn ask(&mut self, rt: &HostRuntime, case: &AskCase) -> io::Result<()> {
-        let row = self.row;
+    fn ask(&mut self, rt: &(impl Print + AllocGlobal), case: &AskCase) -> io::Result<()> {
         let Some(table) = Table::from_lines(case.lines.as_slice()) else {
-            up(&mut self.disagreements);
-            return println!(rt; "row {row}: the lines are no table");
+            return self.differ(rt, Difference::NoTable);
         };
         let nodes = nodes_of_table(rt.alloc(), &table)?;
-        if case.nodes.is_none() || nodes == case.nodes {
-            up(&mut self.tables);
-            return Ok(());
+        if case.nodes.is_some() && case.nodes != nodes {
+            return self.differ(rt, Difference::Nodes);
         }
-        up(&mut self.disagreements);
-        println!(rt; "row {row}: other nodes")
+        self.agree(Kind::Table)
+    }
+
+    // One more case of a kind, in which the library agrees.
+    fn agree(&mut self, kind: Kind) -> io::Result<()> {
+        let count = self.agreements.entry(kind)?.or_insert(0);
+        *count = count.saturating_add(1);
+        Ok(())
+    }
+
+    // One more case in which it differs, which is told.
+    fn differ(&mut self, rt: &impl Print, difference: Difference) -> io::Result<()> {
+        self.disagreements = self.disagreements.saturating_add(1);
+        let row = self.row;
+        println!(rt; "row {row}: {difference}")
     }
 
     // Tells the counts, at the end of the input.
-    pub fn close(&self, rt: &HostRuntime) -> io::Result<()> {
+    pub fn close(&self, rt: &impl Print) -> io::Result<()> {
         rt.println(self)
     }
 }
 
 impl fmt::Display for Tally {
     fn fmt<W: fmt::Write>(&self, f: &mut fmt::Formatter<W>) -> fmt::Result {
-        let counts = [
-            ("accepted", self.accepted),
-            ("length", self.length),
-            ("letter", self.letter),
-            ("signal", self.signal),
-            ("form", self.form),
-            ("lines", self.lines),
-            ("choices", self.choices),
-            ("list", self.list),
-            ("lists lawful", self.lawful),
-            ("lists unlawful", self.unlawful),
-            ("tables", self.tables),
+        let kinds = [
+            Kind::Accepted,
+            Kind::Refused("length"),
+            Kind::Refused("letter"),
+            Kind::Refused("signal"),
+            Kind::Refused("form"),
+            Kind::Refused("lines"),
+            Kind::Refused("choices"),
+            Kind::Refused("list"),
+            Kind::Lawful,
+            Kind::Unlawful,
+            Kind::Table,
         ];
-        for (kind, count) in counts {
+        for kind in kinds {
+            let count = self.agreements.get(&kind).copied().unwrap_or(0);
             writeln!(f, "{kind}: {count}")?;
         }
         let disagreements = self.disagreements;

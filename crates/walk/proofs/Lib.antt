@@ -9,3 +9,4 @@ pub mod Puts
 pub mod Makes
 pub mod Ready
 pub mod Steps
+pub mod Counts

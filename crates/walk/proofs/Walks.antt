@@ -1,7 +1,7 @@
 -- The walk, line by line, and the stack, place by place.
-use Rattle.std.proofs.Common.{◌≡◌, ℕ, zero, suc, ◌+◌, ◌-◌, ◌^◌, ◌<◌, ◌≤◌, Bool, true, false, cond, List, [], ◌∷◌, ◌++◌, length, get_or, set, sym, refl, ap, ◌∙◌, subst, inl, inr, append_assoc, append-nil, pow-suc, add-one, arith, below_more}
-use Rattle.std.proofs.lemmas.Bool.{cases_Bool}
-use Rattle.std.proofs.lemmas.List.{get_or-set_same, get_or-set_other}
+use Rattle.std.proofs.Common.{◌≡◌, ℕ, zero, suc, ◌+◌, ◌-◌, ◌^◌, ◌<◌, ◌≤◌, Bool, true, false, cond, List, [], ◌∷◌, ◌++◌, length, get_or, sym, refl, ap, ◌∙◌, subst, inl, inr, append_assoc, append-nil, pow-suc, add-one, arith}
+use Rattle.std.proofs.lemmas.Bool.{cases_Bool, cases_eq}
+use Rattle.std.proofs.lemmas.List.{get_or_append_left, get_or_push, length_push}
 use Rattle.tables.specs.declared.line.Line.{Line}
 use Rattle.graph.specs.Sets.{has}
 use Rattle.tables.specs.Lines.{Lines, line, is_choice}
@@ -44,48 +44,62 @@ load_suc : (ps : List Pass) (d : ℕ) → load ps (suc d) ≡ 2 ^ (get_or ps d p
 unfolding load
 load_suc ps d = refl
 
-pub rest_pop : (t : Lines) (ps : List Pass) (d : ℕ) → 0 < d → rest t ps d ≡ from_pass t (get_or ps (d - 1) pass0) ++ rest t ps (d - 1)
-rest_pop t ps d l = let e : d ≡ suc (d - 1) = omega arith in ap (rest t ps) e ∙ rest_suc t ps (d - 1)
-
-pub load_pop : (ps : List Pass) (d : ℕ) → 0 < d → load ps d ≡ 2 ^ (get_or ps (d - 1) pass0).line + load ps (d - 1)
-load_pop ps d l = let e : d ≡ suc (d - 1) = omega arith in ap (load ps) e ∙ load_suc ps (d - 1)
-
--- a write at place i leaves the places below it
-rest_set : (t : Lines) (ps : List Pass) (i : ℕ) (p : Pass) (d : ℕ) → d ≤ i → rest t (set ps i p) d ≡ rest t ps d
+-- what stands above the first passes does not matter to them
+rest_below : (t : Lines) (ps more : List Pass) (d : ℕ) → d ≤ length ps → rest t (ps ++ more) d ≡ rest t ps d
 unfolding rest
-rest_set t ps i p zero l = refl
-rest_set t ps i p (suc d) l =
-    ap (λ (q : Pass). from_pass t q ++ rest t (set ps i p) d) (get_or-set_other ps i d p pass0 (λ e. omega arith))
-    ∙ ap (λ (xs : List Found). from_pass t (get_or ps d pass0) ++ xs) (rest_set t ps i p d (omega arith))
+rest_below t ps more zero l = refl
+rest_below t ps more (suc d) l =
+    ap (λ (q : Pass). from_pass t q ++ rest t (ps ++ more) d) (get_or_append_left ps more pass0 d (omega arith))
+    ∙ ap (λ (xs : List Found). from_pass t (get_or ps d pass0) ++ xs) (rest_below t ps more d (omega arith))
 
-load_set : (ps : List Pass) (i : ℕ) (p : Pass) (d : ℕ) → d ≤ i → load (set ps i p) d ≡ load ps d
+load_below : (ps more : List Pass) (d : ℕ) → d ≤ length ps → load (ps ++ more) d ≡ load ps d
 unfolding load
-load_set ps i p zero l = refl
-load_set ps i p (suc d) l =
-    ap (λ (q : Pass). 2 ^ q.line + load (set ps i p) d) (get_or-set_other ps i d p pass0 (λ e. omega arith))
-    ∙ ap (λ (x : ℕ). 2 ^ (get_or ps d pass0).line + x) (load_set ps i p d (omega arith))
+load_below ps more zero l = refl
+load_below ps more (suc d) l =
+    ap (λ (q : Pass). 2 ^ q.line + load (ps ++ more) d) (get_or_append_left ps more pass0 d (omega arith))
+    ∙ ap (λ (x : ℕ). 2 ^ (get_or ps d pass0).line + x) (load_below ps more d (omega arith))
 
-pub rest_push : (t : Lines) (ps : List Pass) (d : ℕ) (p : Pass) → d < length ps → rest t (set ps d p) (d + 1) ≡ from_pass t p ++ rest t ps d
-rest_push t ps d p l =
-    ap (rest t (set ps d p)) (add-one d) ∙ rest_suc t (set ps d p) d
-    ∙ ap (λ (q : Pass). from_pass t q ++ rest t (set ps d p) d) (get_or-set_same ps d p pass0 l)
-    ∙ ap (λ (xs : List Found). from_pass t p ++ xs) (rest_set t ps d p d (omega arith))
+-- a stack `new` of the stack `old` with one more pass on it
+module _ (old new : List Pass) (p : Pass) (e : new ≡ old ++ p ∷ []) where
+  long : length new ≡ suc (length old)
+  long = ap length e ∙ length_push old p ∙ add-one (length old)
 
-pub load_push : (ps : List Pass) (d : ℕ) (p : Pass) → d < length ps → load (set ps d p) (d + 1) ≡ 2 ^ p.line + load ps d
-load_push ps d p l =
-    ap (load (set ps d p)) (add-one d) ∙ load_suc (set ps d p) d
-    ∙ ap (λ (q : Pass). 2 ^ q.line + load (set ps d p) d) (get_or-set_same ps d p pass0 l)
-    ∙ ap (λ (x : ℕ). 2 ^ p.line + x) (load_set ps d p d (omega arith))
+  top : get_or new (length old) pass0 ≡ p
+  top = ap (λ (ps : List Pass). get_or ps (length old) pass0) e ∙ get_or_push old p pass0 (length old) refl
 
-pub room_push : (t : Lines) (n : ℕ) (ps : List Pass) (d : ℕ) (p : Pass) → d < length ps → Room t n ps d
-    → p.line ≤ n → d + choice_of t p.line ≤ 16 → Room t n (set ps d p) (d + 1)
-room_push t n ps d p l old a b =
-    below_more (λ i. ((get_or (set ps d p) i pass0).line ≤ n) × (i + choice_of t (get_or (set ps d p) i pass0).line ≤ 16)) d
-    (λ i h. subst (λ (q : Pass). (q.line ≤ n) × (i + choice_of t q.line ≤ 16)) (sym (get_or-set_other ps d i p pass0 (λ e. omega arith))) (old i h))
-    (subst (λ (q : Pass). (q.line ≤ n) × (d + choice_of t q.line ≤ 16)) (sym (get_or-set_same ps d p pass0 l)) (a, b))
+  lower : (i : ℕ) → i < length old → get_or new i pass0 ≡ get_or old i pass0
+  lower i l = ap (λ (ps : List Pass). get_or ps i pass0) e ∙ get_or_append_left old (p ∷ []) pass0 i l
 
-pub room_less : (t : Lines) (n : ℕ) (ps : List Pass) (d e : ℕ) → e ≤ d → Room t n ps d → Room t n ps e
-room_less t n ps d e l old i h = old i (omega arith)
+  pub rest_push : (t : Lines) → rest t new (length new) ≡ from_pass t p ++ rest t old (length old)
+  rest_push t =
+      ap (rest t new) long ∙ rest_suc t new (length old) ∙ ap (λ (q : Pass). from_pass t q ++ rest t new (length old)) top
+      ∙ ap (λ (ps : List Pass). from_pass t p ++ rest t ps (length old)) e
+      ∙ ap (λ (xs : List Found). from_pass t p ++ xs) (rest_below t old (p ∷ []) (length old) (omega arith))
+
+  pub load_push : load new (length new) ≡ 2 ^ p.line + load old (length old)
+  load_push =
+      ap (load new) long ∙ load_suc new (length old) ∙ ap (λ (q : Pass). 2 ^ q.line + load new (length old)) top
+      ∙ ap (λ (ps : List Pass). 2 ^ p.line + load ps (length old)) e
+      ∙ ap (λ (x : ℕ). 2 ^ p.line + x) (load_below old (p ∷ []) (length old) (omega arith))
+
+  module _ (t : Lines) (n : ℕ) where
+    Fits : ℕ → Pass → Type 0
+    Fits i q = (q.line ≤ n) × (i + choice_of t q.line ≤ 16)
+
+    pub room_push : Room t n old (length old) → p.line ≤ n → length old + choice_of t p.line ≤ 16 → Room t n new (length new)
+    unfolding Fits
+    room_push room a b i l =
+        elim (cases_eq i (length old)) [
+          | inl q ↦ subst (λ (j : ℕ). Fits j (get_or new j pass0)) (sym q) (subst (Fits (length old)) (sym top) (a, b))
+          | inr q ↦
+              let h : i < length old = omega (arith, long) in
+              subst (Fits i) (sym (lower i h)) (room i h)
+        ]
+
+pub rest_one : (t : Lines) (old new : List Pass) (p : Pass) → old ≡ [] → new ≡ old ++ p ∷ [] → rest t new (length new) ≡ from_pass t p
+rest_one t old new p none e =
+    rest_push old new p e t ∙ ap (λ (ps : List Pass). from_pass t p ++ rest t ps (length ps)) none
+    ∙ ap (λ (xs : List Found). from_pass t p ++ xs) (rest_none t []) ∙ append-nil (from_pass t p)
 
 -- only a choice line leads two ways
 two_ways : (l : Line) (k e : ℕ) (f : Found) → length (steps l k e f) ≡ 2 → is_choice l ≡ true
@@ -137,7 +151,3 @@ module _ (t : Lines) (k : ℕ) (f : Found) (all xs : List Found) (l : 0 < k) whe
         sym (append_assoc (walk t (k - 1) g) (walk t (k - 1) b) xs)
         ∙ ap (λ (ys : List Found). (walk t (k - 1) g ++ ys) ++ xs) (sym (append-nil (walk t (k - 1) b)))
         ∙ ap (λ (ys : List Found). ys ++ xs) (sym (walk_hit t k f (g ∷ b ∷ []) l (sym h) s)) ∙ e
-
-pub rest_one : (t : Lines) (p : Pass) (ps : List Pass) → rest t (p ∷ ps) 1 ≡ from_pass t p
-unfolding rest
-rest_one t p ps = append-nil (from_pass t p)

@@ -1,8 +1,7 @@
 -- What an outline keeps of a table's lines.
-use Rattle.std.specs.Prelude.{◌≡◌, ℕ, ◌<◌, Bool, true, false, ◌&&◌, List, length, nat_lt, slice_index, slice_index_or}
+use Rattle.std.specs.Prelude.{◌≡◌, ℕ, ◌<◌, Bool, true, false, ◌&&◌, length, nat_lt, slice_index_or}
 use Rattle.tables.specs.declared.line.Line.{Line}
-use Rattle.tables.specs.Lines.{Lines, line, under}
-use Rattle.graph.specs.Numbers.{eventuality}
+use Rattle.tables.specs.Lines.{Lines, line, under, is_eventuality}
 use Rattle.graph.specs.Unfolding.{stays}
 
 -- a literal's signal has a number below 16
@@ -24,10 +23,6 @@ Narrow t = (k : ℕ) → k < length t → narrow (line t k) ≡ true
 abbrev pub Fit : Lines → ℕ → Type 0
 Fit ls n = (k : ℕ) → k < n → (under k (slice_index_or ls k Line.True) && narrow (slice_index_or ls k Line.True)) ≡ true
 
--- the eventualities' numbers
-abbrev pub Numbered : Lines → ℕ → List ℕ → Type 0
-Numbered ls n es = (k : ℕ) → k < n → slice_index es k ≡ eventuality ls k
-
 abbrev pub is_and : Line → Bool
 is_and Line.True = false
 is_and Line.False = false
@@ -37,6 +32,9 @@ is_and (Line.Or i j) = false
 is_and (Line.Always i) = false
 is_and (Line.Eventually i) = false
 is_and (Line.Next i) = false
+
+abbrev pub event_at : Lines → ℕ → Bool
+event_at t k = is_eventuality (line t k)
 
 abbrev pub stays_at : Lines → ℕ → Bool
 stays_at t k = stays (line t k)

@@ -1,11 +1,10 @@
-// Questions about one line, and sets that grow under a test.
-ghost use Rattle.std.specs.Prelude.{◌≡◌, ◌<◌, ◌≤◌, true, if◌then◌else◌};
-ghost use Rattle.graph.specs.Sets.{add, set_of};
+// Questions about one line, and the numbers that pass a test as a set.
+ghost use Rattle.std.specs.Prelude.{◌≡◌, ℕ, ◌<◌, ◌≤◌, Bool};
+ghost use Rattle.graph.specs.Sets.{set_of};
 ghost use Rattle.graph.specs.Unfolding.{stays};
-ghost use Rattle.tables.specs.Lines.{is_eventuality};
 ghost use Rattle.walk.specs.Fits.{narrow, is_and};
 
-use graph::sets::{with, with16};
+use graph::sets::{Mask, with};
 use tables::line::Line;
 
 // Has a literal's signal a number below 16?
@@ -21,47 +20,28 @@ pub(crate) fn is_narrow(line: Line) -> bool
 pub(crate) fn is_and(line: Line) -> bool
     ensures { result ≡ is_and line }
 {
-    match line {
-        Line::And(_, _) => true,
-        _ => false,
-    }
-}
-
-// One for an eventuality, and else none.
-pub(crate) fn evented(line: Line) -> u8
-    ensures { result ≡ (if is_eventuality line then 1 else 0) }
-{
-    match line {
-        Line::Eventually(_) => 1,
-        _ => 0,
-    }
+    matches!(line, Line::And(_, _))
 }
 
 // Does a line stay as it is put into a label?
 pub(crate) fn stays(line: Line) -> bool
     ensures { result ≡ stays line }
 {
-    match line {
-        Line::True | Line::And(_, _) => false,
-        _ => true,
-    }
+    !matches!(line, Line::True | Line::And(_, _))
 }
 
-pub(crate) fn with_if(set: u128, k: u8, test: bool) -> u128
-    requires { k < 128 }
-    ensures { result ≡ (if test then add set k else set) }
+// The set of the numbers below `count` that pass a test.
+pub(crate) fn set_of<M: Mask, F: Fn(u8) -> bool>(count: u8, test: F) -> M
+    requires fits { count ≤ M.WIDTH }
+    requires callable { (k : ℕ) → k < count → F.pre test k }
+    ensures { (f : ℕ → Bool) → ((k : ℕ) (b : Bool) → k < count → F.post test k b → b ≡ f k)
+        → M.number result ≡ set_of count f }
 {
-    if test { with(set, k) } else { set }
-}
-
-// The set of the numbers below `count`.
-pub(crate) fn below(count: u8) -> u16
-    requires { count ≤ 16 }
-    ensures { result ≡ set_of count (λ e. true) }
-{
-    let mut all = 0;
-    for e in 0..count {
-        all = with16(all, e);
+    let mut set = M::default();
+    for k in 0..count {
+        if test(k) {
+            set = with(set, k);
+        }
     }
-    all
+    set
 }

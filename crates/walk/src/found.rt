@@ -3,7 +3,7 @@ use graph::node::Node;
 
 // What a pass over the lines has found so far: the lines seen, those put next, the eventualities put off,
 // and the signals needed on and off.
-#[derive(Drop, Clone, Copy)]
+#[derive(Drop, Clone, Copy, Default)]
 pub(crate) struct Found {
     pub(crate) seen: u128,
     pub(crate) next: u128,
@@ -12,7 +12,7 @@ pub(crate) struct Found {
     pub(crate) off: u16,
 }
 
-// Where a line leads.
+// Where a line leads. It has names for its three cases, which an `Option` of a pair with an `Option` would not have.
 #[derive(Drop, Clone, Copy)]
 pub(crate) enum Step {
     Dead,
@@ -21,7 +21,7 @@ pub(crate) enum Step {
 }
 
 // A pass that has the lines below `line` still before it.
-#[derive(Drop, Clone, Copy)]
+#[derive(Drop, Clone, Copy, Default)]
 pub(crate) struct Pass {
     pub(crate) line: u8,
     pub(crate) found: Found,

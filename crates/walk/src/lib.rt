@@ -12,6 +12,7 @@ mod make;
 mod next;
 mod open;
 pub mod outline;
+mod place;
 mod put;
 mod read;
 mod step;

@@ -2,9 +2,10 @@
 ghost use Rattle.std.specs.Prelude.{◌≡◌};
 ghost use Rattle.tables.specs.Lines.{Lawful};
 ghost use Rattle.tables.specs.Tables.{lines_of};
-ghost use Rattle.walk.specs.Outlines.{OutlineOf};
+ghost use Rattle.walk.specs.Fits.{Narrow};
+ghost use Rattle.walk.specs.Outlines.{outlined, OutlineOf};
 
-use crate::fit::{below, evented, is_and, is_narrow, stays, with_if};
+use crate::fit::{is_and, is_narrow, set_of, stays};
 use crate::outline::Outline;
 use tables::line::Line;
 use tables::table::{TABLE_LINES, Table};
@@ -14,38 +15,30 @@ impl Outline {
     pub fn of(table: &Table) -> Option<Outline>
         ensures { OutlineOf (lines_of table.now) result }
     {
-        outline(table.lines())
+        let given = table.lines();
+        if given.iter().all(|line| is_narrow(*line)) {
+            Some(outline(given))
+        } else {
+            None
+        }
     }
 }
 
-fn outline(given: &[Line]) -> Option<Outline>
-    requires { Lawful given.now }
-    ensures { OutlineOf given.now result }
+fn outline(given: &[Line]) -> Outline
+    requires lawful { Lawful given.now }
+    requires narrow { Narrow given.now }
+    ensures { outlined result ≡ given.now }
 {
     let len = given.len() as u8;
     let mut lines = [Line::True; TABLE_LINES];
-    let mut numbers = [0; TABLE_LINES];
-    let mut count = 0;
-    let mut staying = 0;
-    let mut ands = 0;
-    for k in 0..len {
-        let line = given[k as usize];
-        if !is_narrow(line) {
-            return None;
-        }
-        lines[k as usize] = line;
-        numbers[k as usize] = count;
-        count += evented(line);
-        staying = with_if(staying, k, stays(line));
-        ands = with_if(ands, k, is_and(line));
-    }
-    let all = below(count);
-    Some(Outline {
+    lines[..given.len()].copy_from_slice(given);
+    let eventualities: u128 = set_of(len, |k| given[k as usize].is_eventuality());
+    Outline {
         lines,
-        numbers,
-        all,
-        stays: staying,
-        ands,
         len,
-    })
+        eventualities,
+        stays: set_of(len, |k| stays(given[k as usize])),
+        ands: set_of(len, |k| is_and(given[k as usize])),
+        all: set_of(eventualities.count_ones() as u8, |_| true),
+    }
 }

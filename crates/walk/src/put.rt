@@ -1,37 +1,23 @@
 // Putting lines into a label, the history, and the nodes that need no walk.
 ghost use Rattle.std.specs.Prelude.{◌≡◌, ℕ, ◌<◌, Decides};
-ghost use Rattle.graph.specs.Pass.{put, spread, spread_below, is_omega, initial};
+ghost use Rattle.graph.specs.Pass.{put, spread_below, is_omega, initial};
 ghost use Rattle.graph.specs.Unfolding.{Initial, Omega};
-ghost use Rattle.tables.specs.Lines.{line};
 ghost use Rattle.walk.specs.Outlines.{outlined};
 ghost use Rattle.walk.specs.Walk.{history_of};
 
 use crate::outline::Outline;
 use graph::node::Node;
-use graph::sets::{common, has, with, without16};
-use tables::line::Line;
+use graph::sets::{common, has, with, without};
 
 impl Outline {
-    fn spread(&self, k: u8, lines: u128) -> u128
-        requires { k < self.now.len }
-        ensures { result ≡ spread (line (outlined self.now) k) lines }
-    {
-        match self.line(k) {
-            Line::And(i, j) => with(with(lines, i), j),
-            _ => lines,
-        }
-    }
-
     // The lines, and the sides of their ∧ lines.
     fn spread_all(&self, lines: u128) -> u128
         ensures { result ≡ spread_below (outlined self.now) self.now.len lines }
     {
         let mut all = lines;
-        let mut k = self.len;
-        while k > 0 {
-            k -= 1;
+        for k in (0..self.len).rev() {
             if has(all, k) {
-                all = self.spread(k, all);
+                all = self.at(k).spread(all);
             }
         }
         all
@@ -53,7 +39,7 @@ impl Outline {
         ensures { result ≡ history_of (outlined self.now) node later }
     {
         let old = if self.is_omega(node) { 0 } else { node.history };
-        without16(self.all, without16(later, old))
+        without(self.all, without(later, old))
     }
 
     // Is its history V?

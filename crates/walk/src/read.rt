@@ -1,12 +1,10 @@
 // Reading an outline.
-ghost use Rattle.std.specs.Prelude.{◌≡◌, ℕ, ◌<◌, ◌≤◌, true, ◌&&◌, length};
-ghost use Rattle.graph.specs.Numbers.{eventuality};
-ghost use Rattle.tables.specs.Lines.{line, under, is_eventuality, total, Earlier};
-ghost use Rattle.walk.specs.Fits.{narrow};
+ghost use Rattle.std.specs.Prelude.{◌≡◌, ℕ, ◌<◌, ◌≤◌, length};
+ghost use Rattle.tables.specs.Lines.{is_eventuality, total, Earlier};
 ghost use Rattle.walk.specs.Outlines.{outlined};
 
-use crate::fit::evented;
 use crate::outline::Outline;
+use crate::place::Place;
 use tables::line::Line;
 
 impl Outline {
@@ -24,24 +22,15 @@ impl Outline {
     pub fn eventualities(&self) -> u8
         ensures { result ≡ total is_eventuality (outlined self.now) }
     {
-        let last = self.len - 1;
-        self.number(last) + evented(self.line(last))
+        self.eventualities.count_ones() as u8
     }
 
-    pub(crate) fn line(&self, k: u8) -> Line
+    // The line with the number k.
+    pub(crate) fn at(&self, k: u8) -> Place<'_>
         requires { k < self.now.len }
-        ensures is { result ≡ line (outlined self.now) k }
-        ensures fits { (under k result && narrow result) ≡ true }
+        ensures outline { result.outline.now ≡ self.now }
+        ensures number { result.k ≡ k }
     {
-        self.lines[k as usize]
-    }
-
-    // The number of a line among the eventualities, where it is one.
-    pub(crate) fn number(&self, k: u8) -> u8
-        requires { k < self.now.len }
-        ensures is { result ≡ eventuality (outlined self.now) k }
-        ensures small { is_eventuality (line (outlined self.now) k) ≡ true → result < 16 }
-    {
-        self.numbers[k as usize]
+        Place { outline: self, k }
     }
 }

@@ -6,10 +6,12 @@ ghost use Rattle.walk.specs.Outlines.{outlined};
 ghost use Rattle.walk.specs.Walk.{see, bring, defer, switch_on, switch_off, steps, step_list};
 
 use crate::found::{Found, Step};
-use crate::outline::Outline;
-use graph::sets::{has16, with, with16};
+use crate::place::Place;
+use graph::sets::{has, with};
 use tables::line::Line;
 
+// Each puts one number into one field, as the definitions of the same names do; one method for all would take the field
+// as a closure, and say less.
 impl Found {
     fn see(self, i: u8) -> Found
         requires { i < 128 }
@@ -36,7 +38,7 @@ impl Found {
         ensures { result ≡ defer self e }
     {
         Found {
-            later: with16(self.later, e),
+            later: with(self.later, e),
             ..self
         }
     }
@@ -46,7 +48,7 @@ impl Found {
         ensures { result ≡ switch_on self s }
     {
         Found {
-            on: with16(self.on, s),
+            on: with(self.on, s),
             ..self
         }
     }
@@ -56,39 +58,28 @@ impl Found {
         ensures { result ≡ switch_off self s }
     {
         Found {
-            off: with16(self.off, s),
+            off: with(self.off, s),
             ..self
         }
     }
 }
 
-impl Outline {
-    // Where line k leads, which is seen.
-    pub(crate) fn step(&self, k: u8, f: Found) -> Step
-        requires { k < self.now.len }
-        ensures { step_list result ≡ steps (line (outlined self.now) k) k (eventuality (outlined self.now) k) f }
+impl Place<'_> {
+    // Where the line leads, which is seen.
+    pub(crate) fn step(&self, f: Found) -> Step
+        ensures { step_list result ≡ steps (line (outlined self.now.outline.now) self.now.k) self.now.k (eventuality (outlined self.now.outline.now) self.now.k) f }
     {
-        match self.line(k) {
+        match self.line() {
             Line::True => Step::One(f),
             Line::False => Step::Dead,
-            Line::Literal(s, true) => {
-                if has16(f.off, s) {
-                    Step::Dead
-                } else {
-                    Step::One(f.switch_on(s))
-                }
-            }
-            Line::Literal(s, false) => {
-                if has16(f.on, s) {
-                    Step::Dead
-                } else {
-                    Step::One(f.switch_off(s))
-                }
-            }
+            Line::Literal(s, true) if has(f.off, s) => Step::Dead,
+            Line::Literal(s, false) if has(f.on, s) => Step::Dead,
+            Line::Literal(s, true) => Step::One(f.switch_on(s)),
+            Line::Literal(s, false) => Step::One(f.switch_off(s)),
             Line::And(i, j) => Step::One(f.see(i).see(j)),
             Line::Or(i, j) => Step::Two(f.see(i), f.see(j)),
-            Line::Always(i) => Step::One(f.see(i).bring(k)),
-            Line::Eventually(i) => Step::Two(f.see(i), f.defer(self.number(k))),
+            Line::Always(i) => Step::One(f.see(i).bring(self.k)),
+            Line::Eventually(i) => Step::Two(f.see(i), f.defer(self.number())),
             Line::Next(i) => Step::One(f.bring(i)),
         }
     }

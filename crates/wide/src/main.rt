@@ -1,7 +1,7 @@
 // Walks all branches of a node with sixteen choice lines.
 #![tactic(auto)]
 
-use std::io;
+use std::{array, io};
 use tables::line::Line;
 use tables::table::Table;
 use walk::branches::Branches;
@@ -9,38 +9,33 @@ use walk::outline::Outline;
 
 // Sixteen times: a signal now, or next.
 fn wide() -> Option<Table> {
-    let mut lines = [Line::False; 63];
-    for i in 0..16u8 {
-        lines[i as usize] = Line::Literal(i, true);
-    }
-    for i in 0..16u8 {
-        lines[16 + i as usize] = Line::Next(i);
-    }
-    for i in 0..16u8 {
-        lines[32 + i as usize] = Line::Or(i, 16 + i);
-    }
-    lines[48] = Line::And(32, 33);
-    for i in 0..14u8 {
-        lines[49 + i as usize] = Line::And(48 + i, 34 + i);
-    }
+    let lines: [Line; 63] = array::from_fn(|k| line(k as u8));
     Table::from_lines(&lines)
 }
 
+// Sixteen signals, each of them next, each now or next, and all of that.
+fn line(k: u8) -> Line {
+    match k {
+        0..16 => Line::Literal(k, true),
+        16..32 => Line::Next(k - 16),
+        32..48 => Line::Or(k - 32, k - 16),
+        48 => Line::And(32, 33),
+        _ => Line::And(k - 1, k - 15),
+    }
+}
+
 fn outline() -> Option<Outline> {
-    let table = wide()?;
-    Outline::of(&table)
+    Outline::of(&wide()?)
 }
 
 fn main(rt: HostRuntime) -> io::Result<()> {
     match outline() {
         Some(outline) => {
-            let node = outline.initial();
             let mut count = 0u64;
             let mut mix = 0u128;
-            let mut walk = Branches::new(&outline, node);
-            while let Some(b) = walk.next_branch() {
+            for branch in Branches::new(&outline, outline.initial()) {
                 count = count.wrapping_add(1);
-                mix ^= b.successor.label.wrapping_mul(3) ^ (b.on as u128);
+                mix ^= branch.successor.label.wrapping_mul(3) ^ u128::from(branch.on);
             }
             println!(rt; "{count} {mix}")?;
         }

@@ -1,10 +1,8 @@
-use Rattle.std.proofs.Common.{ℕ, ap, arith}
+use Rattle.std.proofs.Common.{ap, ◌∙◌}
 use lib.Bits.{bit_or}
-use Rattle.std.proofs.lemmas.Nat.{one_shl}
-use Rattle.graph.specs.Sets.{add}
 use Rattle.graph.proofs.sets.with.Goals as goal
 
-pub returns-then-k-lt128 : goal.returns-then-k-lt128
-unfolding add
-returns-then-k-lt128 c =
-    record { within = λ h. ap (λ (x : ℕ). bit_or c.args.set x) (one_shl c.args.k 128 h); beyond = λ h. absurd (omega arith) }
+pub returns-then-k-WIDTH-clause-within : goal.returns-then-k-WIDTH-clause-within
+unfolding Rattle.graph.specs.Sets.add
+returns-then-k-WIDTH-clause-within g c _ =
+    g.met.M.Mask.or_law _ _ _ c.bitor.ensures ∙ ap (bit_or (g.M.Mask.number c.args.set)) c.only.ensures

@@ -1,14 +1,8 @@
 use Rattle.std.proofs.Common.{false, refl, arith, below_more}
 use Rattle.std.proofs.lemmas.Bool.{both_ways}
-use Rattle.judge.proofs.Listing.{once_new, ranked_once, ranks_begins, ranks_closed}
+use Rattle.judge.proofs.Listing.{once_new, ranked_once, ranks_closed}
 use Rattle.judge.proofs.refutation.refutes.Goals as goal
 use Rattle.judge.proofs.refutation.refutes.Goals.{then-not-is_new-via-then-not-is_new, then-not-is_new-via-else-not-is_new+then-not-is_closed}
-
-pub returns-then-not-begins : goal.returns-then-not-begins
-returns-then-not-begins c = (
-  λ e. absurd (both_ways false refl e),
-  λ r. absurd (both_ways c.begins.result c.if-not-begins.true (c.begins.ensures.1 (ranks_begins _ _ r.0))),
-)
 
 pub returns-then-not-is_new : goal.returns-then-not-is_new
 returns-then-not-is_new c = (

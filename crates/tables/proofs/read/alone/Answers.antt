@@ -1,22 +1,20 @@
 use Rattle.std.proofs.Common.{length, ap, arith}
 use Rattle.rules.specs.Rules.{formula_of}
-use Rattle.tables.specs.Lines.{Lines, choices}
+use Rattle.tables.specs.Lines.{Lines}
 use Rattle.tables.specs.Normal.{nnf}
 use Rattle.tables.specs.Numbering.{place}
-use Rattle.tables.specs.Tables.{drafted}
 use Rattle.tables.proofs.Made.{length_drafted}
-use Rattle.tables.proofs.Limited.{from_nothing}
-use Rattle.tables.proofs.Asking.{alone_short, alone_few, tabled_some}
+use Rattle.tables.proofs.Limited.{leads_tabled, leads_some}
+use Rattle.tables.proofs.Asking.{alone_short, tabled_some}
 use Rattle.tables.proofs.read.alone.Goals as goal
 
-pub unreachable-requires : goal.unreachable-requires
-unreachable-requires c =
+pub unwrap-requires : goal.unwrap-requires
+unwrap-requires c =
     let F = nnf c.args.sign (formula_of c.args.rule.now.rule) in
-    omega (arith, c.in_default.ensures, ap (λ (t : Lines). length (place F t).table) c.new-draft.ensures, alone_short c.args.rule.now c.args.sign)
+    leads_some _ _ c.number_rule.ensures (omega (arith, ap (λ (t : Lines). length (place F t).table) c.new.ensures, alone_short c.args.rule.now c.args.sign))
 
-pub table-requires : goal.table-requires
-table-requires c =
+pub table-requires-clause-some : goal.table-requires-clause-some
+table-requires-clause-some c =
     let F = nnf c.args.sign (formula_of c.args.rule.now.rule) in
-    let d = c.number_rule.new.draft in
-    let e = from_nothing F (drafted c.new-draft.result) (drafted d) c.in-Some.field-0 c.new-draft.ensures c.in-Some.ensures in
-    (omega (arith, length_drafted d, ap length e, tabled_some F), omega (arith, ap choices e, alone_few c.args.rule.now c.args.sign))
+    let d = c.unwrap.result in
+    omega (arith, length_drafted d.0, ap length (leads_tabled F c.new.result c.number_rule.result d c.new.ensures c.number_rule.ensures c.unwrap.ensures), tabled_some F)

@@ -4,4 +4,4 @@ use Rattle.tables.proofs.Asking.{asks}
 use Rattle.tables.proofs.question.Question.keep.Goals as goal
 
 pub returns : goal.returns
-returns c = asks (keeps (formula_of c.args.x.now.rule)) _ c.alone-table.ensures
+returns c = asks (keeps (formula_of c.args.x.now.rule)) _ c.alone.ensures

@@ -4,4 +4,4 @@ use Rattle.tables.proofs.Asking.{asks}
 use Rattle.tables.proofs.question.Question.keep_and_break.Goals as goal
 
 pub returns : goal.returns
-returns c = asks (both (formula_of c.args.x.now.rule) (formula_of c.args.y.now.rule)) _ c.joined-table.ensures
+returns c = asks (both (formula_of c.args.x.now.rule) (formula_of c.args.y.now.rule)) _ c.joined.ensures

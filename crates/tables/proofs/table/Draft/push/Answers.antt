@@ -1,29 +1,26 @@
-use Rattle.std.proofs.Common.{◌≡◌, ℕ, ◌<◌, true, false, ltb, length, sym, refl, subst, arith}
-use Rattle.std.proofs.lemmas.Bool.{both_ways, ltb-true, lt-ltb}
+use Rattle.std.proofs.Common.{◌≡◌, ℕ, ◌++◌, [], ◌∷◌, ◌↔◌, true, IsSome, OnSome, sym, subst, Decides, ◌==◌, rules, arith}
+use Rattle.std.proofs.lemmas.Bool.Decides.{Decides-eqb}
 use Rattle.tables.specs.Lines.{under}
-use Rattle.tables.specs.Tables.{drafted}
-use Rattle.tables.proofs.Made.{length_drafted, entered_next, next_longer, next_fits}
+use Rattle.tables.specs.Tables.{drafted, Next}
+use Rattle.tables.proofs.Made.{length_drafted, next_fits, tells_next}
 use Rattle.tables.proofs.table.Draft.push.Goals as goal
 
-pub returns-in-Some : goal.returns-in-Some
-returns-in-Some c =
+told : (c : goal.After-then_some) → (IsSome c.then_some.result ↔ Next (drafted c.args.self.now) c.args.line) × OnSome c.then_some.result (drafted c.enter.new.self ≡ drafted c.args.self.now ++ (c.args.line ∷ []))
+told c =
     let d = c.args.self.now in
     let u = c.enter.new.self in
-    let l = c.args.line in
-    let n = length_drafted d in
-    let m = length_drafted u in
-    let e = c.in-Some.ensures in
-    let up : ltb d.len u.len ≡ true → length (drafted d) < length (drafted u) = λ h. omega (arith, ltb-true d.len u.len h, n, m) in
-    let new = λ (h : ltb d.len u.len ≡ true). entered_next (drafted d) (drafted u) l c.in-Some.field-0 e (up h) in (
-      (
-        (λ h. (omega (arith, up h, m, u.short), subst (λ (k : ℕ). under k l ≡ true) (sym n) (sym c.if-not-is_under.ensures), (new h).1)),
-        λ q. lt-ltb d.len u.len (omega (arith, next_longer (drafted d) (drafted u) l c.in-Some.field-0 e q, n, m)),
-      ),
-      λ h. (new h).0,
-    )
+    let k : ℕ = c.in_ok-number.number in
+    rw c.then_some.ensures
+    (tells_next (drafted d) (drafted u) c.args.line k c.in_ok-number.ensures.goes (omega (arith, length_drafted u, u.short))
+    (subst (λ (n : ℕ). under n c.args.line ≡ true) (sym (length_drafted d)) (sym c.if-not-is_under.ensures)) _
+    (subst (λ (n : ℕ). Decides (k == d.len) (k ≡ n)) (sym (length_drafted d)) (Decides-eqb k d.len)))
 
-pub returns-in-None : goal.returns-in-None
-returns-in-None c = (
-  ((λ h. absurd (both_ways false refl h)), λ q. absurd (next_fits (drafted c.args.self.now) c.args.line c.in-None.ensures q)),
-  λ h. absurd (both_ways false refl h),
-)
+pub returns-in_err-number-clause-next : goal.returns-in_err-number-clause-next
+returns-in_err-number-clause-next c =
+    rw c.from_residual.ensures (λ s. absurd (search rules), λ n. absurd (next_fits (drafted c.args.self.now) c.args.line c.in_err-number.ensures.goes n))
+
+pub returns-clause-next : goal.returns-clause-next
+returns-clause-next c = (told c).0
+
+pub returns-clause-added : goal.returns-clause-added
+returns-clause-added c = (told c).1

@@ -1,33 +1,47 @@
-use Rattle.std.proofs.Common.{◌≡◌, ℕ, [], ◌∷◌, ◌++◌, length, sym, ap, ◌∙◌, subst, arith}
+use Rattle.std.proofs.Common.{◌≡◌, ℕ, [], ◌∷◌, ◌++◌, length, sym, refl, ap, ◌∙◌, subst, rules, arith}
 use Rattle.std.proofs.lemmas.Bool.{both_ways}
 use Rattle.std.proofs.lemmas.List.{take_all, take_more}
+use Rattle.std.proofs.lemmas.Grind.{common_steps}
 use Rattle.tables.specs.declared.line.Line.{Line}
 use Rattle.tables.specs.Lines.{Lines, line, choices, Lawful}
-use Rattle.tables.specs.Tables.{drafted, Next}
-use Rattle.tables.proofs.Made.{table_lawful, length_drafted, lawful_next}
+use Rattle.tables.specs.Tables.{lines_of, drafted, Next}
+use Rattle.tables.proofs.Made.{length_drafted, lawful_next}
 use Rattle.tables.proofs.table.Table.from_lines.Goals as goal
+use Rattle.tables.proofs.table.Table.from_lines.Goals.{then-is_empty-via-then-is_empty, then-is_empty-via-else-is_empty+then-choices-gt-TABLE_CHOICES}
 
-pub returns-then-not-push : goal.returns-then-not-push
-returns-then-not-push c o =
+pub returns-in_err-push : goal.returns-in_err-push
+returns-in_err-push c =
     let ls = c.args.lines.now in
     let k : ℕ = c.loop-line.line-index in
-    both_ways _ c.if-not-push.true
-    (c.push.ensures.0.1 (subst (λ (t : Lines). Next t (line ls k)) (sym c.loop-line.invariant) (lawful_next ls o k c.loop-line-test.true)))
+    rw c.from_residual.ensures
+    (λ o. both_ways _ refl (c.in_err-push.ensures.next.1 (subst (λ (t : Lines). Next t (line ls k)) (sym c.loop-line.invariant) (lawful_next ls o k c.loop-line-test.true))))
 
 pub loop-line-preserved : goal.loop-line-preserved
 loop-line-preserved c =
     let ls = c.args.lines.now in
     let k : ℕ = c.loop-line.line-index in
-    c.push.ensures.1 c.if-not-push.false ∙ ap (λ (t : Lines). t ++ (line ls k ∷ [])) c.loop-line.invariant ∙ sym (take_more ls k Line.True c.loop-line-test.true)
+    c.in_ok-push.ensures.added ∙ ap (λ (t : Lines). t ++ (line ls k ∷ [])) c.loop-line.invariant ∙ sym (take_more ls k Line.True c.loop-line-test.true)
 
-pub table-requires : goal.table-requires
-table-requires c =
+pub returns-then-is_empty : goal.returns-then-is_empty
+returns-then-is_empty c =
     let ls = c.args.lines.now in
-    let e : drafted c.loop-line.draft ≡ ls = c.loop-line.invariant ∙ take_all c.loop-line.line-index ls c.loop-line-test.false in
-    (omega (arith, length_drafted c.loop-line.draft, ap length e, c.if-lines-eq0.false), omega (arith, ap choices e, c.count.ensures))
+    let whole : drafted c.loop-line.draft ≡ ls = c.loop-line.invariant ∙ take_all c.loop-line.line-index ls c.loop-line-test.false in
+    λ o. elim c.then-is_empty.branch [
+      | then-is_empty-via-then-is_empty w ↦ let some = o.some in absurd (grind (arith, common_steps))
+      | then-is_empty-via-else-is_empty+then-choices-gt-TABLE_CHOICES w ↦ absurd (omega (arith, o.few, w.choices.ensures, ap choices whole))
+    ]
+
+pub table-requires-clause-some : goal.table-requires-clause-some
+table-requires-clause-some c =
+    let ls = c.args.lines.now in
+    let whole : drafted c.loop-line.draft ≡ ls = c.loop-line.invariant ∙ take_all c.loop-line.line-index ls c.loop-line-test.false in
+    let long = length_drafted c.loop-line.draft in
+    let same = ap length whole in
+    grind (arith, common_steps)
 
 pub returns : goal.returns
 returns c =
     let ls = c.args.lines.now in
-    let e = c.table.ensures ∙ c.loop-line.invariant ∙ take_all c.loop-line.line-index ls c.loop-line-test.false in
-    (subst Lawful e (table_lawful c.table.result), e)
+    let whole : lines_of c.table.result ≡ ls = c.table.ensures ∙ c.loop-line.invariant ∙ take_all c.loop-line.line-index ls c.loop-line-test.false in
+    let lawful : Lawful (lines_of c.table.result) = search rules in
+    (subst Lawful whole lawful, whole)

@@ -14,5 +14,5 @@ returns c =
       | then-is_omega w ↦ w.old-is ∙ ap (λ (b : Bool). cond b 0 n.history) w.if-is_omega.ensures.is
       | else-is_omega w ↦ w.old-is ∙ ap (λ (b : Bool). cond b 0 n.history) w.if-is_omega.ensures.is
     ] in
-    history_is (outlined s) n s.all c.args.later c.if-is_omega.old c.without16.result c.without16-2.result
-    s.every old c.without16.ensures c.without16-2.ensures
+    history_is (outlined s) n s.all c.args.later c.if-is_omega.old c.without.result c.without-2.result
+    s.every old c.without.ensures c.without-2.ensures
