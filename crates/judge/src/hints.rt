@@ -17,7 +17,7 @@ pub struct Hints {
     slots: [Option<u16>; SLOTS],
 }
 
-// The first slot to try for a node.
+// The first slot to try for a node. It takes the label's halves by itself: those of `records` are private to its layout.
 fn slot_of(node: Node) -> usize
     ensures { result < 4096 }
 {

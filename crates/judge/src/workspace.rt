@@ -4,7 +4,7 @@ ghost use Rattle.std.specs.Prelude.{◌≡◌, length};
 use records::sizes::POSITIONS;
 use records::space::Space;
 
-// Room for what is read of a record, and the rows of a run's truth table. The caller of the judge owns them; nothing in
+// Room for what is read of a record, and the rows of a run's truth table, for the longest, since judging allocates nothing. The caller of the judge owns them; nothing in
 // them matters before a record is judged, or after.
 #[derive(Drop)]
 pub struct Workspace {

@@ -1,15 +1,17 @@
 -- The bytes of a number, one by one.
-use Rattle.std.specs.Prelude.{◌≡◌, ℕ, zero, suc, ◌+◌, ◌-◌, ◌*◌, ◌/◌, ◌%◌, ◌^◌, ◌<◌, ◌≤◌, Bool, true, false, cond, List, [], ◌∷◌, length, ◌==◌, refl}
+use Rattle.std.specs.Prelude.{◌≡◌, ℕ, zero, suc, ◌+◌, ◌-◌, ◌*◌, ◌/◌, ◌%◌, ◌^◌, ◌<◌, ◌≤◌, Bool, true, false, cond, List, [], ◌∷◌, ◌++◌, length, take, ◌==◌, ◌≢◌, slice_index, refl}
 use Rattle.std.proofs.Common.{sym, ap, ◌∙◌, arith, mod-eq_of_lt, pow-add}
 use Rattle.std.proofs.Math.Nat.{pow-succ'}
 use Rattle.std.proofs.Math.Pow.{mod-mod-pow}
 use Rattle.std.proofs.lemmas.Nat.{div_below, mod_below, field_of}
 use Rattle.std.specs.Int.{byte_at, bytes_high_first}
+use Rattle.std.proofs.lemmas.List.{take_more, take_all, length-take-le}
+use Rattle.std.proofs.lemmas.Bool.{ne_eqb, eq-eqb}
 use Rattle.records.specs.Claims.{big, field}
 use Rattle.records.specs.Codes.{base_pos}
 use Rattle.records.specs.Puts.{length_big}
 
-base_two : (k : ℕ) → 256 ^ k ≡ 2 ^ (8 * k)
+pub base_two : (k : ℕ) → 256 ^ k ≡ 2 ^ (8 * k)
 base_two zero = refl
 base_two (suc k) =
     let e : 8 * suc k ≡ 8 + 8 * k = omega arith in
@@ -25,6 +27,38 @@ low_digit n j k h =
     ∙ ap (λ (x : ℕ). x % 256) (field_of n (8 * (k - j)) (8 * j))
     ∙ ap (λ (x : ℕ). n / 2 ^ (8 * j) % 2 ^ x % 256) f
     ∙ mod-mod-pow (n / 2 ^ (8 * j)) (8 * (k - j) - 8) 8
+
+get_or_big : (k n i : ℕ) → i < k → n < 256 ^ k → slice_index (big k n) i ≡ n / 2 ^ (8 * (k - 1 - i)) % 256
+unfolding big
+get_or_big zero n i h l = absurd (omega arith)
+get_or_big (suc k) n zero h l =
+    let p = pow-succ' 256 k in
+    let q : n / 256 ^ k < 256 = div_below n (256 ^ k) 256 (base_pos k) (omega arith) in
+    let e : suc k - 1 - 0 ≡ k = omega arith in
+    sym (mod-eq_of_lt q) ∙ ap (λ (x : ℕ). n / x % 256) (base_two k) ∙ ap (λ (x : ℕ). n / 2 ^ (8 * x) % 256) (sym e)
+get_or_big (suc k) n (suc i) h l =
+    let e : suc k - 1 - suc i ≡ k - 1 - i = omega arith in
+    get_or_big k (n % 256 ^ k) i (omega arith) (mod_below n (256 ^ k) (base_pos k))
+    ∙ ap (λ (x : ℕ). n % x / 2 ^ (8 * (k - 1 - i)) % 256) (base_two k)
+    ∙ low_digit n (k - 1 - i) k (omega arith)
+    ∙ ap (λ (x : ℕ). n / 2 ^ (8 * x) % 256) (sym e)
+
+-- one more byte of a number of eight
+pub long_more : (n i b : ℕ) → i < 8 → n < 2 ^ 64 → b ≡ n / 2 ^ (56 - 8 * i) % 256 → take i (big 8 n) ++ (b ∷ []) ≡ take (i + 1) (big 8 n)
+long_more n i b h l q =
+    let e : 8 * (8 - 1 - i) ≡ 56 - 8 * i = omega arith in
+    let len : length (big 8 n) ≡ 8 = length_big 8 n in
+    ap (λ (x : ℕ). take i (big 8 n) ++ (x ∷ [])) (q ∙ ap (λ (x : ℕ). n / 2 ^ x % 256) (sym e) ∙ sym (get_or_big 8 n i h l))
+    ∙ sym (take_more (big 8 n) i 0 (omega arith))
+
+pub long_all : (n i : ℕ) → 8 ≤ i → take i (big 8 n) ≡ big 8 n
+long_all n i h = let len : length (big 8 n) ≡ 8 = length_big 8 n in take_all i (big 8 n) (omega arith)
+
+pub field_none : (k v : ℕ) → v ≡ 0 → [] ≡ field k v
+field_none k v e = ap (λ (t : Bool). cond t [] (big k v)) (sym (eq-eqb v 0 e))
+
+pub field_some : (k v : ℕ) → (v ≢ 0) → big k v ≡ field k v
+field_some k v e = ap (λ (t : Bool). cond t [] (big k v)) (sym (ne_eqb v 0 e))
 
 byte_is : (k n : ℕ) → byte_at k n ≡ n / 2 ^ (8 * k) % 256
 byte_is zero n = ap (λ (x : ℕ). x % 256) (omega arith)
@@ -56,3 +90,6 @@ field_len k v false = let h = length_big k v in omega arith
 
 pub length_field : (k v : ℕ) → length (field k v) ≤ k
 length_field k v = field_len k v (v == 0)
+
+pub length_front : (n i : ℕ) → i ≤ 8 → length (take i (big 8 n)) ≡ i
+length_front n i h = let len : length (big 8 n) ≡ 8 = length_big 8 n in length-take-le i (big 8 n) (omega arith)

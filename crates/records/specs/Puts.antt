@@ -1,7 +1,7 @@
 -- One writing after another.
-use Rattle.std.specs.Prelude.{◌≡◌, ℕ, zero, suc, ◌+◌, ◌%◌, ◌^◌, ◌≤◌, List, [], ◌++◌, length, take, drop, refl}
+use Rattle.std.specs.Prelude.{◌≡◌, ℕ, zero, suc, ◌+◌, ◌/◌, ◌%◌, ◌^◌, ◌<◌, ◌≤◌, List, [], ◌∷◌, ◌++◌, length, take, drop, slice_set, refl}
 use Rattle.std.proofs.Common.{sym, ap, ◌∙◌, subst, append_assoc, arith, length-append, length-drop}
-use Rattle.std.proofs.lemmas.List.{take-append-drop, take_at, drop_at, drop-drop, length-take-le}
+use Rattle.std.proofs.lemmas.List.{take-append-drop, take_at, drop_at, drop-drop, set_split, length-take-le}
 use Rattle.records.specs.declared.writer.Writer.{Writer}
 use Rattle.records.specs.Appending.{put, Room, Wrote}
 use Rattle.records.specs.Claims.{big}
@@ -33,7 +33,11 @@ put_put xs i ys zs h =
     ∙ ap (λ (a : List ℕ). A ++ a) (sym (append_assoc ys zs (drop (n + length zs) xs)))
     ∙ ap (λ (k : ℕ). A ++ ((ys ++ zs) ++ drop k xs)) m
 
-put_none : (xs : List ℕ) (i : ℕ) → xs ≡ put xs i []
+pub set_put : (xs : List ℕ) (i b : ℕ) → i < length xs → slice_set xs i b ≡ put xs i (b ∷ [])
+unfolding put
+set_put xs i b h = let e : suc i ≡ i + 1 = omega arith in set_split xs i b h ∙ ap (λ (k : ℕ). take i xs ++ b ∷ drop k xs) e
+
+pub put_none : (xs : List ℕ) (i : ℕ) → xs ≡ put xs i []
 unfolding put
 put_none xs i = let e : i ≡ i + 0 = omega arith in sym (take-append-drop i xs) ∙ ap (λ (k : ℕ). take i xs ++ drop k xs) e
 
@@ -68,3 +72,11 @@ length_long n = omega (arith, length_big 8 n)
 -- the room that is left
 pub room_left : {a b : Writer} {ys : List ℕ} (m n : ℕ) → Wrote a b ys → length ys ≤ m → Room a (m + n) → Room b n
 room_left m n w l r = omega (arith, w.at, w.room)
+
+-- a number in two bytes
+pub word_wrote : (v a b : ℕ) (w0 w1 w2 : Writer) → Room w0 2 → Wrote w0 w1 (a ∷ []) → Wrote w1 w2 (b ∷ []) → a ≡ v / 256 → b ≡ v % 256 → Wrote w0 w2 (big 2 v)
+unfolding big
+word_wrote v a b w0 w1 w2 r p q ea eb =
+    wrote_same w0 w2 _ _
+    (ap (λ (x : ℕ). x ∷ b ∷ []) ea ∙ ap (λ (x : ℕ). v / 256 ∷ x ∷ []) (eb ∙ omega arith))
+    (wrote_more w0 w1 w2 (a ∷ []) (b ∷ []) (omega arith) p q)

@@ -35,6 +35,7 @@ pub(crate) trait Number: Coded + PartialEq {
     ghost ZERO: { Self };
 }
 
+// The impls of the two numbers differ in the width alone; no macro of the repository's may write them.
 impl Coded for u16 {
     ghost parsed = { number 2 0 };
 

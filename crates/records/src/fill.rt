@@ -15,24 +15,23 @@ impl Space {
         ensures { record_of limits bytes.now ≡ understood result }
     {
         let mut reader = Reader::new(bytes);
-        match Kind::try_from(reader.byte()?) {
-            Ok(Kind::Cycle) => {
+        match Kind::try_from(reader.byte()?).ok()? {
+            Kind::Cycle => {
                 let cycle = reader.list(limits, &mut self.cycle)?;
                 reader.end()?;
                 Some(Claim::Run { lead: &[], cycle })
             }
-            Ok(Kind::LeadAndCycle) => {
+            Kind::LeadAndCycle => {
                 let lead = reader.list(limits, &mut self.lead)?;
                 let cycle = reader.list(limits, &mut self.cycle)?;
                 reader.end()?;
                 Some(Claim::Run { lead, cycle })
             }
-            Ok(Kind::Graph) => {
+            Kind::Graph => {
                 let nodes = reader.list(limits, &mut self.nodes)?;
                 reader.end()?;
                 Some(Claim::Graph(nodes))
             }
-            Err(_) => None,
         }
     }
 }

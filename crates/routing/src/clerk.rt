@@ -22,12 +22,12 @@ pub struct Clerk<'a> {
 
 impl<'a> Clerk<'a> {
     // The names of the list; an unlawful one counts as no names.
-    pub fn names(self) -> SignalList<'a> {
+    pub(crate) fn names(self) -> SignalList<'a> {
         SignalList::lenient(self.list)
     }
 
     // Says which formula a text spells, or why none.
-    pub fn rule(self, text: &[u8]) -> io::Result<()> {
+    pub(crate) fn rule(self, text: &[u8]) -> io::Result<()> {
         match Rule::read(self.names(), text) {
             Ok(rule) => self.tell_rule(&rule),
             Err(refusal) => self.tell_refused_rule(text, refusal),
@@ -51,14 +51,14 @@ impl<'a> Clerk<'a> {
     }
 
     // Says why a text is refused as a rule, and points into it.
-    pub fn tell_refused_rule(self, text: &[u8], refusal: Refusal) -> io::Result<()> {
+    pub(crate) fn tell_refused_rule(self, text: &[u8], refusal: Refusal) -> io::Result<()> {
         let rt = self.rt;
         let pointed = Pointed { refusal, text };
         println!(rt; "The rule is refused: {refusal}.{pointed}")
     }
 
     // Shows the normal table of keeping a rule, or says why there is none.
-    pub fn table(self, text: &[u8]) -> io::Result<()> {
+    pub(crate) fn table(self, text: &[u8]) -> io::Result<()> {
         self.question(Texts {
             kept: text,
             broken: &[],
@@ -66,7 +66,7 @@ impl<'a> Clerk<'a> {
     }
 
     // Shows the normal table of a question, or says why there is none.
-    pub fn question(self, texts: Texts) -> io::Result<()> {
+    pub(crate) fn question(self, texts: Texts) -> io::Result<()> {
         let rt = self.rt;
         match Question::read(self.names(), texts.kept, texts.broken) {
             Ok(question) => {
@@ -84,7 +84,7 @@ impl<'a> Clerk<'a> {
     }
 
     // Says why the texts of a question are refused, and points into the one that is.
-    pub fn tell_refused_question(self, texts: Texts, refusal: Refusal) -> io::Result<()> {
+    pub(crate) fn tell_refused_question(self, texts: Texts, refusal: Refusal) -> io::Result<()> {
         let rt = self.rt;
         let text = if self.refuses(texts.kept) {
             texts.kept

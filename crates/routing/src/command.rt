@@ -38,7 +38,7 @@ pub enum Line<'a> {
 }
 
 impl Verb {
-    // The command of this name.
+    // The command of this name. A word that is none is no error, so an `Option` and no `TryFrom`.
     pub fn named(word: &[u8]) -> Option<Verb>
         ensures { Named word.now result }
     {
@@ -53,7 +53,7 @@ impl Verb {
     }
 
     // What to write after the name of the command.
-    pub fn wanted(self) -> &'static str {
+    pub(crate) fn wanted(self) -> &'static str {
         match self {
             Verb::Signals => "after 'signals' write a blank and the names.",
             Verb::Rule => "after 'rule' write a blank and the rule's text.",

@@ -15,7 +15,7 @@ enum Form {
 
 impl Clerk<'_> {
     // Explores the graph of keeping a rule, or says why there is none; ` dot` after the text asks for a drawing.
-    pub fn graph(self, text: &[u8]) -> io::Result<()> {
+    pub(crate) fn graph(self, text: &[u8]) -> io::Result<()> {
         match text.strip_suffix(b" dot") {
             Some(text) => self.explore(text, Form::Drawing),
             None => self.explore(text, Form::Words),

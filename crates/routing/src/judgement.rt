@@ -18,7 +18,7 @@ use walk::outline::Outline;
 
 impl Clerk<'_> {
     // Takes the two texts of a question and a record in hexadecimal, and judges the record.
-    pub fn judgement(self, parts: &[u8]) -> io::Result<()> {
+    pub(crate) fn judgement(self, parts: &[u8]) -> io::Result<()> {
         let rt = self.rt;
         let Some((texts, digits)) = asked(parts) else {
             return println!(rt;

@@ -1,7 +1,8 @@
 // The clerk's program: reads commands, a line each, and says in plain sentences what it does.
 //
 // `command` tells what a line asks for, `desk` remembers what was given, and `clerk`, `drawing` and `judgement` say what
-// comes of it; `formula`, `table`, `nodes`, `run`, `refused`, `words` and `bytes` show what is told.
+// comes of it; `texts` has the two
+// texts of a question; `formula`, `table`, `nodes`, `run`, `refused`, `words` and `bytes` show what is told.
 #![tactic(auto)]
 
 mod bytes;

@@ -67,7 +67,8 @@ impl Graph<'_> {
         Ok(())
     }
 
-    // Writes an arrow from a node of this number to each node that it leads to.
+    // Writes an arrow from a node of this number to each node that it leads to. The loop is that above, and what is written is
+    // not: a closure over both would be longer.
     fn arrows<W: fmt::Write>(
         self,
         from: usize,

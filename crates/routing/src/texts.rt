@@ -9,7 +9,7 @@ pub struct Texts<'a> {
 
 impl<'a> Texts<'a> {
     // The texts before and after the first slash; a blank right before it and one right after it belong to the cut.
-    pub fn parted(texts: &'a [u8]) -> Option<Texts<'a>> {
+    pub(crate) fn parted(texts: &'a [u8]) -> Option<Texts<'a>> {
         let slash = texts.iter().position(|b| *b == b'/')?;
         let before = &texts[..slash];
         let after = &texts[slash + 1..];

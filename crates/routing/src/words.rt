@@ -30,7 +30,7 @@ fn word_end(bytes: &[u8]) -> usize
     bytes.iter().position(|b| *b == b' ').unwrap_or(bytes.len())
 }
 
-// Goes through the names of a list, in their order.
+// Goes through the names of a list, in their order. `split` would give one empty name where there are no bytes.
 #[derive(Drop)]
 pub struct Names<'a> {
     // what is still to be cut, after a blank too

@@ -31,7 +31,7 @@ impl Token<'_> {
     }
 }
 
-// Steps through a text; what stands before `at` has been handed out.
+// Steps through a text by a place in it, since offsets are what it answers; what stands before `at` has been handed out.
 #[derive(Drop)]
 pub struct Reader<'a> {
     pub(crate) list: SignalList<'a>,

@@ -57,7 +57,7 @@ pub enum Refusal {
 }
 
 impl Refusal {
-    // The number by which programs and callers from C know the refusal; a cast gives none, since some variants carry values.
+    // The number that docs/REFUSALS.md gives the refusal, and programs print; a cast gives none, since some variants carry values.
     pub fn number(&self) -> u8
         ensures { result ≡ (told self.now).0 }
     {

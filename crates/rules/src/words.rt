@@ -23,6 +23,7 @@ impl From<Token<'_>> for Word {
     }
 }
 
+// Each call says that list and text stay (`ReadsOn`): held by `&` beside a place by `&mut`, the three would travel together.
 impl Reader<'_> {
     // The next word with its offset, or `None` at the end.
     pub(crate) fn next_word(&mut self) -> Result<Option<(usize, Word)>, Fault>

@@ -27,6 +27,7 @@ struct Numberer<'a> {
     ghost remembered: { Remembers (formulas entries.now) memo (drafted draft) } by { Remembers-prop (formulas entries.now) memo (drafted draft) },
 }
 
+// Each call says that the entries stay: held by `&` beside the rest by `&mut`, the two would travel together.
 impl Numberer<'_> {
     // Enters a line, or its dual where the sign is false.
     fn enter(&mut self, line: Line, sign: bool) -> Option<u8>

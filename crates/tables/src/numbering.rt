@@ -15,12 +15,12 @@ pub fn number<K: PartialEq + Copy>(keys: &mut [K], used: usize, key: K) -> Optio
     ensures { Numbered (λ x' y' r'. r' ≡ K.PartialEq.eq x' y') keys.old used key result keys.new }
 {
     let numbered = used.min(keys.len());
-    match number_of(&keys[..numbered], &key) {
-        Some(number) => Some(number),
-        None if numbered < keys.len() => {
-            keys[numbered] = key;
-            Some(numbered)
-        }
-        None => None,
+    if let Some(number) = number_of(&keys[..numbered], &key) {
+        return Some(number);
     }
+    if numbered == keys.len() {
+        return None;
+    }
+    keys[numbered] = key;
+    Some(numbered)
 }

@@ -22,7 +22,8 @@ pub struct RecordCase {
     pub answer: Judgement,
 }
 
-// What is answered to a record: what it shows, or a refusal by its number.
+// What is answered to a record: what it shows, or a refusal by its number, since a row has no offset or length, which a
+// `Refusal` carries.
 pub type Judgement = Result<Verdict, usize>;
 
 // Reads a number: 0 is "none", 255 is "run", and any other is a refusal's.

@@ -11,7 +11,7 @@ use tables::table::TABLE_LINES;
 // The lines of a table, the sets of its eventualities, of the lines that stay and of the ∧ lines, and V.
 #[derive(Drop)]
 pub struct Outline {
-    // The lines are an array and a length: a vector of fixed capacity wants a default line, and no line is one.
+    // The lines are an array and a length: the length is a byte, as the numbers of lines are, and no loop over them casts it.
     pub(crate) lines: [Line; TABLE_LINES],
     pub(crate) len: u8,
     pub(crate) eventualities: u128,

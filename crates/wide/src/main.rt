@@ -31,12 +31,13 @@ fn outline() -> Option<Outline> {
 fn main(rt: HostRuntime) -> io::Result<()> {
     match outline() {
         Some(outline) => {
-            let mut count = 0u64;
-            let mut mix = 0u128;
-            for branch in Branches::new(&outline, outline.initial()) {
-                count = count.wrapping_add(1);
-                mix ^= branch.successor.label.wrapping_mul(3) ^ u128::from(branch.on);
-            }
+            let (count, mix) = Branches::new(&outline, outline.initial()).fold(
+                (0u64, 0u128),
+                |(count, mix), branch| (
+                    count.wrapping_add(1),
+                    mix ^ branch.successor.label.wrapping_mul(3) ^ u128::from(branch.on),
+                ),
+            );
             println!(rt; "{count} {mix}")?;
         }
         None => println!(rt; "no table")?,
