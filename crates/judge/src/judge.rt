@@ -25,7 +25,8 @@ pub fn limits_of(outline: &Outline, signals: u8) -> Limits
     }
 }
 
-// Does the run make the last line true at its first position?
+// Does the run make the last line true at its first position? A lead-in and a cycle come as two slices, since the public calls of
+// `truth` and `records` have them so.
 fn keeps(outline: &Outline, lead: &[u16], cycle: &[u16], rows: &mut [u128]) -> bool
     requires some { 0 < length cycle.now }
     requires room { length lead.now + length cycle.now ≤ length rows.old }

@@ -22,7 +22,8 @@ impl Clerk<'_> {
         }
     }
 
-    // Reads the rule, and shows the graph of keeping it.
+    // Reads the rule, and shows the graph of keeping it. A record is judged on an outline that is made so too, but its question is
+    // refused in other words.
     fn explore(self, text: &[u8], form: Form) -> io::Result<()> {
         let rt = self.rt;
         match Question::read(self.names(), text, &[]) {
