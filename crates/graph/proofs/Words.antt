@@ -4,7 +4,8 @@ use lib.Bits.{bit_and, bit_or}
 use Rattle.std.proofs.lemmas.Nat.{or_shr, or_mod, and_shr, and_mod, and_mask, shr-shr}
 use Rattle.std.proofs.lemmas.Bool.{both_ways}
 use Rattle.rules.specs.Runs.{on}
-use Rattle.graph.specs.Sets.{has}
+use Rattle.graph.specs.Sets.{has, set_of}
+use Rattle.graph.proofs.Masks.{set_of_has, set_of_lt}
 
 digit : (a : ℕ) → (a % 2 ≡ 0) ⊎ (a % 2 ≡ 1)
 digit a = elim (Rattle.std.proofs.lemmas.Bool.cases_eq (a % 2) 0) [ inl e ↦ inl e | inr h ↦ inr (omega arith) ]
@@ -67,3 +68,7 @@ mask_ext (suc n) a b p q h =
     let e : a / 2 ≡ b / 2 = mask_ext n (a / 2) (b / 2) (omega (arith, pow-suc 2 n)) (omega (arith, pow-suc 2 n))
     (λ k l. half_has a k ∙ h (suc k) (omega arith) ∙ sym (half_has b k)) in
     omega (arith, e, low_same a b (h 0 (omega arith)))
+
+-- a mask is the set of its bits
+pub set_of_of : (n m : ℕ) → m < 2 ^ n → set_of n (has m) ≡ m
+set_of_of n m h = mask_ext n (set_of n (has m)) m (set_of_lt n (has m)) h (λ k l. set_of_has n (has m) k l)

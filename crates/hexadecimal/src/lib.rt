@@ -26,11 +26,15 @@ impl From<FromHexError> for HexFault {
     }
 }
 
-// Is no digit a capital?
+// Is no digit a capital? All are looked at, whatever the first ones are: so the compiler takes many at a time.
 fn are_small(digits: &[u8]) -> bool
     ensures { IsTrue result ↔ All IsSmall digits.now }
 {
-    digits.iter().all(|digit| !digit.is_ascii_uppercase())
+    let mut small = true;
+    for digit in digits {
+        small &= !digit.is_ascii_uppercase();
+    }
+    small
 }
 
 // The bytes that digits spell, two for each; capitals are none.

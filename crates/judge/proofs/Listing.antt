@@ -33,7 +33,7 @@ only_place l o m a b s t =
     o a b (omega (arith, length_ranked l, s.0)) (omega (arith, length_ranked l, t.0)) (node_ranked l a ∙ s.1 ∙ sym t.1 ∙ sym (node_ranked l b))
 
 -- so a fall to it is a fall to that place
-fell : (l : List Listed) (r : ℕ) (strict : Bool) (m : Node) (p : ℕ) → Once (ranked_list l) → Stands l m p → Falls l r strict m
+pub fell : (l : List Listed) (r : ℕ) (strict : Bool) (m : Node) (p : ℕ) → Once (ranked_list l) → Stands l m p → Falls l r strict m
     → ((listed l p).rank ≤ r) × (strict ≡ true → (listed l p).rank < r)
 fell l r strict m p o s f =
     subst (λ (x : ℕ). ((listed l x).rank ≤ r) × (strict ≡ true → (listed l x).rank < r)) (only_place l o m f.0 p f.1 s) (f.2, f.3)

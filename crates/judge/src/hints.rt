@@ -10,11 +10,20 @@ const SLOTS: usize = 4096;
 // So many slots, one after another, are tried for a node.
 const TRIES: usize = 8;
 
+// The number of a node, or that it is free: two bytes, where an `Option<u16>` takes four and is slower to fill.
+#[derive(Clone, Copy, PartialEq)]
+struct Slot(u16);
+
+impl Slot {
+    // The largest number, which ends a guess as any number does that no node of the list has.
+    const FREE: Slot = Slot(u16::MAX);
+}
+
 // The numbers of nodes, each in a slot that its node's bits choose, or in one of the next. A map would allocate, and the judge
 // does not.
 #[derive(Drop)]
 pub struct Hints {
-    slots: [Option<u16>; SLOTS],
+    slots: [Slot; SLOTS],
 }
 
 // The first slot to try for a node. It takes the label's halves by itself: those of `records` are private to its layout.
@@ -42,7 +51,7 @@ impl Hints {
     // No guesses.
     pub fn new() -> Hints {
         Hints {
-            slots: [None; SLOTS],
+            slots: [Slot::FREE; SLOTS],
         }
     }
 
@@ -51,20 +60,20 @@ impl Hints {
         let first = slot_of(node);
         let free = (first..first + TRIES)
             .map(|slot| slot % SLOTS)
-            .find(|slot| self.slots[*slot].is_none());
+            .find(|slot| self.slots[*slot] == Slot::FREE);
         if let Some(slot) = free {
-            self.slots[slot] = Some(number);
+            self.slots[slot] = Slot(number);
         }
     }
 
-    // A place of the node in the list, if a guess is right.
+    // A place of the node in the list, if a guess is right. A number that no node of the list has ends the guessing.
     pub fn guess(&self, nodes: &[Ranked], node: Node) -> Option<usize>
         ensures { Guessed nodes.now node result }
     {
         let first = slot_of(node);
         (first..first + TRIES)
-            .map_while(|slot| self.slots[slot % SLOTS])
-            .map(usize::from)
+            .map(|slot| usize::from(self.slots[slot % SLOTS].0))
+            .take_while(|number| *number < nodes.len())
             .find(|number| nodes.get(*number).is_some_and(|listed| listed.node == node))
     }
 

@@ -54,17 +54,16 @@ impl Graph<'_> {
         leads(self.outline, from, to)
     }
 
-    // Writes the numbers of the nodes that a node leads to.
+    // Writes the numbers of the nodes that a node leads to. Each is asked for once, since that walks the node's branches.
     fn successors<W: fmt::Write>(self, node: Node, f: &mut fmt::Formatter<W>) -> fmt::Result {
-        if !self.nodes.iter().any(|to| self.leads(node, *to)) {
-            return f.write_str(" none");
-        }
+        let mut some = false;
         for (number, to) in self.nodes.iter().enumerate() {
             if self.leads(node, *to) {
+                some = true;
                 write!(f, " {number}")?;
             }
         }
-        Ok(())
+        if some { Ok(()) } else { f.write_str(" none") }
     }
 
     // Writes an arrow from a node of this number to each node that it leads to. The loop is that above, and what is written is

@@ -28,7 +28,9 @@ impl fmt::Display for RunTable<'_> {
         f.write_str(" [")?;
         numbers(lead..length, f)?;
         f.write_str(" ]")?;
-        for (signal, name) in (0..=u8::MAX).zip(Names::of(self.list)) {
+        // Counted by hand, since a list that is unlawful may have more names than a byte has numbers: `zip` would end with them.
+        let mut signal = 0u8;
+        for name in Names::of(self.list) {
             let shown = Shown(name);
             write!(f, "\n  {shown}")?;
             f.write_repeated(" ", COLUMN.saturating_sub(name.len()))?;
@@ -36,6 +38,7 @@ impl fmt::Display for RunTable<'_> {
             f.write_str(" [")?;
             states(self.cycle, signal, f)?;
             f.write_str(" ]")?;
+            signal = signal.saturating_add(1);
         }
         Ok(())
     }

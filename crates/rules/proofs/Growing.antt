@@ -45,7 +45,7 @@ pub meaning_all : (xs : List Entry) (k : ℕ) → get_or (build [] xs) k (atom T
 meaning_all xs k = ap (λ (zs : List Entry). get_or (build [] zs) k (atom True)) (sym (take-length xs))
 
 -- an older entry keeps its formula
-meaning_kept : (xs ys : List Entry) (n m k : ℕ) → n ≤ m → n ≤ length ys → take n ys ≡ take n xs → k < n → meaning ys m k ≡ meaning xs n k
+pub meaning_kept : (xs ys : List Entry) (n m k : ℕ) → n ≤ m → n ≤ length ys → take n ys ≡ take n xs → k < n → meaning ys m k ≡ meaning xs n k
 meaning_kept xs ys n m k h l e lt =
     let s : take m ys ≡ take n ys ++ drop n (take m ys) = sym (take-append-drop n (take m ys)) ∙ ap (λ (zs : List Entry). zs ++ drop n (take m ys)) (take-take n m ys h) in
     let b : build [] (take m ys) ≡ build (build [] (take n ys)) (drop n (take m ys)) = ap (build []) s ∙ build_append [] (take n ys) (drop n (take m ys)) in
@@ -69,21 +69,24 @@ made_stands xs n i (Two s a c) h l b =
     ap (λ (f : Formula). binary s f (get_or (build [] (take i xs)) c (atom True))) (operand xs n i a h l (ltb-true _ _ p.0))
     ∙ ap (λ (g : Formula). binary s (meaning xs n a) g) (operand xs n i c h l (ltb-true _ _ p.1))
 
-meaning_at : (xs : List Entry) (n i : ℕ) → n ≤ length xs → i < n → meaning xs n i ≡ made (build [] (take i xs)) (get_or xs i nothing)
+pub meaning_at : (xs : List Entry) (n i : ℕ) → n ≤ length xs → i < n → meaning xs n i ≡ made (build [] (take i xs)) (get_or xs i nothing)
 meaning_at xs n i h l =
     let e : take (i + 1) xs ≡ take i xs ++ (get_or xs i nothing ∷ []) = take_more xs i nothing (omega arith) in
     meaning_kept xs xs (i + 1) n i (omega arith) (omega arith) refl (omega arith)
     ∙ ap (λ (zs : List Entry). get_or (build [] zs) i (atom True)) e ∙ get_or_newest (take i xs) (get_or xs i nothing) i (omega (arith, length-take-le i xs (omega arith)))
 
-stands_at : (xs : List Entry) (n i : ℕ) → n ≤ length xs → i < n → Ordered xs n → Stands (meaning xs n) (get_or xs i nothing) (meaning xs n i)
+pub stands_at : (xs : List Entry) (n i : ℕ) → n ≤ length xs → i < n → Ordered xs n → Stands (meaning xs n) (get_or xs i nothing) (meaning xs n i)
 stands_at xs n i h l o =
     subst (λ (f : Formula). Stands (meaning xs n) (get_or xs i nothing) f) (sym (meaning_at xs n i h l)) (made_stands xs n i (get_or xs i nothing) h l (o i l))
 
-pub shows : (r : Rule) (xs : List Entry) → xs ≡ r.arena → Ordered xs (length xs) → length xs ≤ 512 → Shows r xs
-shows r xs e o few = record {
-  some = omega (arith, r.rooted, ap length e);
-  few = few;
-  ordered = o;
-  last = ap last_meaning e;
-  each = λ i l. stands_at xs (length xs) i (omega arith) l o;
-}
+-- the entries of a rule
+pub shows : (r : Rule) (xs : List Entry) → xs ≡ r.arena → Shows r xs
+shows r xs e =
+    let o : Ordered xs (length xs) = subst (λ (zs : List Entry). Ordered zs (length zs)) (sym e) r.ordered in
+    record {
+      some = omega (arith, r.rooted, ap length e);
+      few = omega (arith, r.few, ap length e);
+      ordered = o;
+      last = ap last_meaning e;
+      each = λ i l. stands_at xs (length xs) i (omega arith) l o;
+    }

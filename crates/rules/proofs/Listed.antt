@@ -71,7 +71,7 @@ all_fit : (ns : List ℕ) → Lawful ns → AllFit ns (names ns) 0
 all_fit ns l =
     (λ k h. (omega (arith, l.few), l.proper k h, first_at (get_or (names ns) k []) (names ns) k h refl (λ i lt e. l.distinct i k lt h e) ∙ (let z : k ≡ 0 + k = omega arith in ap (λ (m : ℕ). Some m) z)))
 
-lawful_fit : (ns : List ℕ) → Lawful ns → AllFit ns (words ns) 0
+pub lawful_fit : (ns : List ℕ) → Lawful ns → AllFit ns (words ns) 0
 lawful_fit [] l = absurd (omega (arith, l.some))
 lawful_fit (b ∷ bs) l = all_fit (b ∷ bs) l
 
@@ -91,7 +91,7 @@ fit_names ns s f = record {
       omega arith;
 }
 
-fit_lawful : (ns : List ℕ) → AllFit ns (words ns) 0 → Lawful ns
+pub fit_lawful : (ns : List ℕ) → AllFit ns (words ns) 0 → Lawful ns
 fit_lawful [] f = absurd (true≢false (sym (f 0 (omega arith)).1))
 fit_lawful (b ∷ bs) f = fit_names (b ∷ bs) (some_words (b ∷ bs)) f
 

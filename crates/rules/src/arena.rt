@@ -31,6 +31,8 @@ impl Model for Arena {
 pub struct Rule {
     pub(crate) arena: Arena,
     ghost rooted: { 0 < length arena },
+    ghost few: { length arena ≤ 512 },
+    ghost ordered: { Ordered arena (length arena) },
     ghost whole: { length arena ≡ size (last_meaning arena) },
 }
 
@@ -53,6 +55,17 @@ impl Arena {
         let number = self.entries.len();
         self.entries.push(entry);
         number as u16
+    }
+
+    // The rule whose formula the last entry stands for. The entries are looked at, since a proof learns here that they are few and
+    // ordered, which every `Rule` says of itself.
+    pub(crate) fn rule(self) -> Rule
+        requires rooted { 0 < length self }
+        requires whole { length self ≡ size (last_meaning self) }
+        ensures { result.arena ≡ self }
+    {
+        let _entries = self.entries();
+        Rule { arena: self }
     }
 
     // How many entries there are.

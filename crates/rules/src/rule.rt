@@ -48,7 +48,7 @@ fn whole<'a>(list: SignalList<'a>, text: &'a [u8]) -> Result<Rule, Fault>
     let mut arena = Arena::new();
     let _root = formula(&mut arena, &mut reader)?;
     match reader.next_word()? {
-        None => Ok(Rule { arena }),
+        None => Ok(arena.rule()),
         Some((at, _)) => Err(FaultKind::Form.at(at)),
     }
 }

@@ -69,6 +69,23 @@ fn deep_texts_are_read(rt: HostRuntime) {
     assert_eq!(rt; read(b"p", &[b'('; 512]), Err(Refusal::Form(512)));
 }
 
+// That the size fits is proved here from what every `Rule` says of itself.
+fn narrow_size(rule: &Rule) -> u16 {
+    rule.size() as u16
+}
+
+// The size in two bytes, or the refusal.
+fn read_narrow(list: &[u8], text: &[u8]) -> Result<u16, Refusal> {
+    Rule::read(SignalList::lenient(list), text).map(|rule| narrow_size(&rule))
+}
+
+#[test]
+fn a_size_fits_two_bytes(rt: HostRuntime) {
+    let mut text = [b'~'; 512];
+    text[511] = b'p';
+    assert_eq!(rt; read_narrow(b"p", &text), Ok(512));
+}
+
 #[test]
 fn an_unlawful_list_has_no_names(rt: HostRuntime) {
     assert_eq!(rt; read(b"p  q", b"p"), Err(Refusal::Signal(0)));

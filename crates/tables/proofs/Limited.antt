@@ -37,7 +37,7 @@ choosy_to f (inl a) = inl a
 choosy_to f (inr a) = inr (omega (arith, broken_choices f))
 
 -- what the numbering of a whole rule begins with
-stands_told : (f : ℕ → Formula) (e : Entry) (F : Formula) → Stands f e F → told f e ≡ F
+pub stands_told : (f : ℕ → Formula) (e : Entry) (F : Formula) → Stands f e F → told f e ≡ F
 stands_told f (Leaf a) F h = sym h
 stands_told f (One u i) F h = sym h
 stands_told f (Two b i j) F h = sym h

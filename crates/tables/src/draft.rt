@@ -8,7 +8,7 @@ ghost use Rattle.tables.specs.Tables.{lines_of, drafted, Next, Goes};
 use crate::limits::RULE_CHOICES;
 use crate::line::Line;
 use crate::numbering::number;
-use crate::table::{Draft, TABLE_LINES, Table};
+use crate::table::{Draft, TABLE_CHOICES, TABLE_LINES, Table};
 
 impl Draft {
     // No lines yet.
@@ -33,6 +33,15 @@ impl Draft {
         ensures { result ≡ choices (drafted self.now) }
     {
         self.lines().iter().filter(|line| line.is_choice()).count()
+    }
+
+    // Are there no more of them than a table may have? The lemma is named for the search, so that a count made here would be proved
+    // too, and a wrong one refused for its number.
+    #[tactic(auto, using(crate::proofs::Counts::total_counts))]
+    pub(crate) fn has_few_choices(&self) -> bool
+        ensures { IsTrue result ↔ choices (drafted self.now) ≤ 16 }
+    {
+        self.choices() <= TABLE_CHOICES
     }
 
     // How many are choice lines in the negation's normal form. One method for both counts would want a clause about the test

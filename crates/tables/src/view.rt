@@ -8,7 +8,7 @@ ghost use Rattle.tables.specs.Lines.{line, Lawful, choices};
 ghost use Rattle.tables.specs.Tables.{lines_of, MadeOf, At, eventuality};
 
 use crate::line::Line;
-use crate::table::{Draft, TABLE_CHOICES, Table};
+use crate::table::{Draft, Table};
 
 impl Table {
     // The table of these lines, if they are lawful.
@@ -19,7 +19,7 @@ impl Table {
         for line in lines {
             draft.push(*line)?;
         }
-        if lines.is_empty() || draft.choices() > TABLE_CHOICES {
+        if lines.is_empty() || !draft.has_few_choices() {
             return None;
         }
         Some(draft.table())
@@ -47,7 +47,9 @@ impl Table {
         self.lines().last().copied().unwrap()
     }
 
-    // How many of the lines are choice lines.
+    // How many of the lines are choice lines. The lemma is named for the search, so that a count made here would be proved too, and
+    // a wrong one refused for its number.
+    #[tactic(auto, using(crate::proofs::Counts::total_counts))]
     pub fn choices(&self) -> usize
         ensures { result ≡ choices (lines_of self.now) }
     {

@@ -17,7 +17,7 @@ use std::io::{BufRead, BufReader};
 use tally::Tally;
 
 fn main(rt: HostRuntime) -> io::Result<()> {
-    let mut tally = Tally::new(rt.alloc());
+    let mut tally = Tally::new();
     for line in BufReader::new(rt.alloc(), rt.stdin())?.split(rt.alloc(), b'\n') {
         tally.take(&rt, line?.as_slice())?;
     }

@@ -5,13 +5,12 @@ use crate::fault::Fault;
 use crate::row::{AskCase, ListCase, Row, RuleCase};
 use rules::refusal::Refusal;
 use rules::signals::SignalList;
-use std::alloc::{AllocError, Global};
-use std::collections::BTreeMap;
+use std::alloc::AllocError;
 use std::{fmt, io};
 use tables::table::Table;
 
 // What a case is counted under: a rule that is accepted, or refused under this word; a list; or a table.
-#[derive(Clone, Copy, Debug, PartialEq, Eq, PartialOrd, Ord)]
+#[derive(Clone, Copy, Debug, PartialEq, Eq)]
 enum Kind {
     Accepted,
     Refused(&'static str),
@@ -40,6 +39,21 @@ impl fmt::Display for Kind {
         }
     }
 }
+
+// The kinds that come up, in the order in which they are told.
+const KINDS: [Kind; 11] = [
+    Kind::Accepted,
+    Kind::Refused("length"),
+    Kind::Refused("letter"),
+    Kind::Refused("signal"),
+    Kind::Refused("form"),
+    Kind::Refused("lines"),
+    Kind::Refused("choices"),
+    Kind::Refused("list"),
+    Kind::Lawful,
+    Kind::Unlawful,
+    Kind::Table,
+];
 
 // In what the library differs from a row.
 #[derive(Clone, Copy)]
@@ -100,16 +114,17 @@ impl fmt::Display for Counts {
 pub struct Tally {
     // the row at hand, by its line's number
     row: u64,
-    agreements: BTreeMap<Kind, u64>,
+    // a count for each kind; a map would ask for memory, and counting is not to fail
+    agreements: [(Kind, u64); 11],
     disagreements: u64,
 }
 
 impl Tally {
     // Nothing is counted yet.
-    pub fn new(heap: Global) -> Tally {
+    pub fn new() -> Tally {
         Tally {
             row: 0,
-            agreements: BTreeMap::new(heap),
+            agreements: KINDS.map(|kind| (kind, 0)),
             disagreements: 0,
         }
     }
@@ -133,7 +148,8 @@ impl Tally {
         let found = judge(case.list.as_slice(), case.text.as_slice());
         let found_nodes = nodes_of_rule(rt.alloc(), case.list.as_slice(), case.text.as_slice())?;
         if agrees(&answer, &found) && found_nodes == nodes(&answer) {
-            return self.agree(Kind::from(&answer));
+            self.agree(Kind::from(&answer));
+            return Ok(());
         }
         let expected = Told(answer.map(|_| None));
         let found = Told(found.map(Some));
@@ -146,7 +162,8 @@ impl Tally {
         if lawful != case.lawful {
             return self.differ(rt, Difference::List { lawful });
         }
-        self.agree(if lawful { Kind::Lawful } else { Kind::Unlawful })
+        self.agree(if lawful { Kind::Lawful } else { Kind::Unlawful });
+        Ok(())
     }
 
     // Counts a table that is one, with its nodes where they are said, or tells that it is not.
@@ -158,14 +175,15 @@ impl Tally {
         if case.nodes.is_some() && case.nodes != nodes {
             return self.differ(rt, Difference::Nodes);
         }
-        self.agree(Kind::Table)
+        self.agree(Kind::Table);
+        Ok(())
     }
 
     // One more case of a kind, in which the library agrees.
-    fn agree(&mut self, kind: Kind) -> io::Result<()> {
-        let count = self.agreements.entry(kind)?.or_insert(0);
-        *count = count.saturating_add(1);
-        Ok(())
+    fn agree(&mut self, kind: Kind) {
+        if let Some((_, count)) = self.agreements.iter_mut().find(|(other, _)| *other == kind) {
+            *count = count.saturating_add(1);
+        }
     }
 
     // One more case in which it differs, which is told.
@@ -183,21 +201,7 @@ impl Tally {
 
 impl fmt::Display for Tally {
     fn fmt<W: fmt::Write>(&self, f: &mut fmt::Formatter<W>) -> fmt::Result {
-        let kinds = [
-            Kind::Accepted,
-            Kind::Refused("length"),
-            Kind::Refused("letter"),
-            Kind::Refused("signal"),
-            Kind::Refused("form"),
-            Kind::Refused("lines"),
-            Kind::Refused("choices"),
-            Kind::Refused("list"),
-            Kind::Lawful,
-            Kind::Unlawful,
-            Kind::Table,
-        ];
-        for kind in kinds {
-            let count = self.agreements.get(&kind).copied().unwrap_or(0);
+        for (kind, count) in self.agreements {
             writeln!(f, "{kind}: {count}")?;
         }
         let disagreements = self.disagreements;

@@ -24,7 +24,7 @@ pub returns-in-None : goal.returns-in-None
 returns-in-None c =
     let new = c.new-reader.ensures in
     let end = subst (λ (x : Option (ℕ × Word)). Hears c.formula.new.reader (Ok x) c.next_word.new.self) c.in-None.is c.in_ok-next_word.ensures.hears in
-    ap said (sym (at_start c.new-reader.result _ _ new.list new.text new.at)) ∙ spells_whole _ _ _ _ _ c.in_ok-_root.ensures.parses end
+    rw c.rule.ensures (ap said (sym (at_start c.new-reader.result _ _ new.list new.text new.at)) ∙ spells_whole _ _ _ _ _ c.in_ok-_root.ensures.parses end)
 
 pub returns-in-Some : goal.returns-in-Some
 returns-in-Some c =

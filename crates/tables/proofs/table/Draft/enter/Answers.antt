@@ -1,4 +1,4 @@
-use Rattle.std.proofs.Common.{◌≡◌, ◌≤◌, length, take, ap, subst, arith}
+use Rattle.std.proofs.Common.{◌≡◌, ◌+◌, ◌≤◌, max, length, take, ap, subst, arith}
 use Rattle.tables.specs.Lines.{Lines, Earlier, Apart}
 use Rattle.tables.specs.Numbering.{Placed, enter}
 use Rattle.tables.specs.Tables.{drafted}
@@ -6,12 +6,13 @@ use Rattle.tables.proofs.Drafts.{numbered, full}
 use Rattle.tables.proofs.Made.{draft_entered}
 use Rattle.tables.proofs.table.Draft.enter.Goals as goal
 
--- the array as the numbering leaves it
+-- the array as the numbering leaves it; the new length is found by arithmetic, in whatever form the code has it
 after : (c : goal.After-max-self) → enter c.args.line (drafted c.args.self.now) ≡ record { table = take c.max-self.result c.number.new.keys; at = c.in_ok-number.number }
 after c =
     let d = c.args.self.now in
     let h : d.len ≤ length d.lines = omega (arith, d.room, d.short) in
-    rw c.max-self.ensures (numbered d.lines d.len c.args.line h c.in_ok-number.number c.number.new.keys c.in_ok-number.ensures)
+    let m : c.max-self.result ≡ max d.len (c.in_ok-number.number + 1) = omega (arith, d.short) in
+    rw m (numbered d.lines d.len c.args.line h c.in_ok-number.number c.number.new.keys c.in_ok-number.ensures)
 
 kept : (c : goal.After-max-self) (P : Lines → Type 0) → P (enter c.args.line (drafted c.args.self.now)).table → P (take c.max-self.result c.number.new.keys)
 kept c P = subst P (ap (λ (p : Placed). p.table) (after c))

@@ -1,4 +1,4 @@
-use Rattle.std.proofs.Common.{◌≡◌, ℕ, [], ◌∷◌, ◌++◌, length, sym, refl, ap, ◌∙◌, subst, rules, arith}
+use Rattle.std.proofs.Common.{◌≡◌, ℕ, ◌≤◌, [], ◌∷◌, ◌++◌, length, sym, refl, ap, ◌∙◌, subst, rules, arith}
 use Rattle.std.proofs.lemmas.Bool.{both_ways}
 use Rattle.std.proofs.lemmas.List.{take_all, take_more}
 use Rattle.std.proofs.lemmas.Grind.{common_steps}
@@ -7,7 +7,7 @@ use Rattle.tables.specs.Lines.{Lines, line, choices, Lawful}
 use Rattle.tables.specs.Tables.{lines_of, drafted, Next}
 use Rattle.tables.proofs.Made.{length_drafted, lawful_next}
 use Rattle.tables.proofs.table.Table.from_lines.Goals as goal
-use Rattle.tables.proofs.table.Table.from_lines.Goals.{then-is_empty-via-then-is_empty, then-is_empty-via-else-is_empty+then-choices-gt-TABLE_CHOICES}
+use Rattle.tables.proofs.table.Table.from_lines.Goals.{then-is_empty-via-then-is_empty, then-is_empty-via-else-is_empty+then-not-has_few_choices}
 
 pub returns-in_err-push : goal.returns-in_err-push
 returns-in_err-push c =
@@ -28,7 +28,10 @@ returns-then-is_empty c =
     let whole : drafted c.loop-line.draft ≡ ls = c.loop-line.invariant ∙ take_all c.loop-line.line-index ls c.loop-line-test.false in
     λ o. elim c.then-is_empty.branch [
       | then-is_empty-via-then-is_empty w ↦ let some = o.some in absurd (grind (arith, common_steps))
-      | then-is_empty-via-else-is_empty+then-choices-gt-TABLE_CHOICES w ↦ absurd (omega (arith, o.few, w.choices.ensures, ap choices whole))
+      | then-is_empty-via-else-is_empty+then-not-has_few_choices w ↦
+          let few : choices (drafted c.loop-line.draft) ≤ 16 = omega (arith, o.few, ap choices whole) in
+          let yes = w.has_few_choices.ensures.1 few in
+          absurd (search rules)
     ]
 
 pub table-requires-clause-some : goal.table-requires-clause-some
