@@ -2,7 +2,6 @@
 ghost use Rattle.std.specs.Prelude.{◌≡◌, ℕ, ◌<◌, true, ◌&&◌};
 ghost use Rattle.graph.specs.Numbers.{eventuality};
 ghost use Rattle.graph.specs.Pass.{spread};
-ghost use Rattle.graph.specs.Sets.{has};
 ghost use Rattle.tables.specs.Lines.{line, under, is_eventuality};
 ghost use Rattle.walk.specs.Fits.{narrow};
 ghost use Rattle.walk.specs.Outlines.{outlined};
@@ -38,22 +37,11 @@ impl Place<'_> {
         below.count_ones() as u8
     }
 
-    // Is the line a marked eventuality of a node's label? Most nodes have no marks, and the number of an eventuality is counted.
-    fn is_marked(&self, node: Node) -> bool
-        ensures { result ≡ (is_eventuality (line (outlined self.now.outline.now) self.now.k)
-            && has node.marks (eventuality (outlined self.now.outline.now) self.now.k)) }
-    {
-        if node.marks == 0 {
-            return false;
-        }
-        self.line().is_eventuality() && has(node.marks, self.number())
-    }
-
     // Does a node's label have the line, itself or as a marked eventuality?
     pub(crate) fn opens(&self, node: Node) -> bool
         ensures { result ≡ opens (outlined self.now.outline.now) node self.now.k }
     {
-        has(node.label, self.k) || self.is_marked(node)
+        has(node.label, self.k) || self.line().is_eventuality() && has(node.marks, self.number())
     }
 
     // The lines, and the sides of this one, if it is an ∧ line.
