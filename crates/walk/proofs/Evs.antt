@@ -1,5 +1,5 @@
 -- Eventualities are few.
-use Rattle.std.proofs.Common.{◌≡◌, ℕ, zero, suc, ◌<◌, ◌≤◌, Bool, true, cond, refl, inl, inr, arith}
+use Rattle.std.proofs.Common.{◌≡◌, ℕ, zero, suc, ◌+◌, ◌<◌, ◌≤◌, Bool, true, cond, refl, inl, inr, arith}
 use Rattle.std.proofs.lemmas.Bool.{cases_Bool}
 use Rattle.tables.specs.declared.line.Line.{Line}
 use Rattle.tables.specs.Lines.{Lines, line, is_eventuality, is_choice, number}
@@ -37,6 +37,11 @@ ev_small t k n l h e =
 pub chs_choice : (t : Lines) (k : ℕ) → is_choice (line t k) ≡ true → choice_of t (suc k) ≡ suc (choice_of t k)
 unfolding number
 chs_choice t k e = rw e
+
+-- one more line, and perhaps one more eventuality
+pub ev_next : (t : Lines) (k : ℕ) → eventuality t (suc k) ≡ eventuality t k + cond (is_eventuality (line t k)) 1 0
+unfolding number
+ev_next t k = elim (cases_Bool (is_eventuality (line t k))) [ inl e ↦ rw e (omega arith) | inr e ↦ rw e (omega arith) ]
 
 pub chs_more : (t : Lines) (k : ℕ) → choice_of t k ≤ choice_of t (suc k)
 unfolding number

@@ -2,7 +2,7 @@
 use Rattle.std.proofs.Common.{◌≡◌, ℕ, zero, suc, ◌+◌, ◌-◌, ◌<◌, Bool, true, false, cond, not, ◌&&◌, ◌||◌, length, sym, refl, ap, ◌∙◌, inl, inr, add-one, arith}
 use Rattle.tables.specs.declared.line.Line.{Line}
 use Rattle.graph.specs.Sets.{has, add, set_of}
-use Rattle.tables.specs.Lines.{Lines, line}
+use Rattle.tables.specs.Lines.{Lines, line, is_eventuality}
 use Rattle.graph.specs.Pass.{spread, spread_below, put}
 use Rattle.graph.specs.Unfolding.{stays}
 use Rattle.graph.proofs.Masks.{set_of_has, set_of_from, has_none}
@@ -10,7 +10,7 @@ use Rattle.std.proofs.lemmas.Bool.{cases_Bool, cases_lt, both_ways, and_from}
 use Rattle.graph.specs.declared.node.Node.{Node}
 use Rattle.graph.specs.Numbers.{eventuality}
 use Rattle.graph.specs.Pass.{everything, is_omega}
-use Rattle.walk.specs.Walk.{history_of}
+use Rattle.walk.specs.Walk.{is_marked, history_of}
 use Rattle.walk.proofs.Gather.{mask_same}
 use Rattle.walk.specs.Fits.{is_and, stays_at, and_at}
 
@@ -47,6 +47,11 @@ pub set_turn : (f : ℕ → Bool) (k a r : ℕ) (b : Bool) → a ≡ set_of k f 
 set_turn f k a r b ea eb er =
     er ∙ ap (λ (v : Bool). cond v (add a k) a) eb ∙ ap (λ (x : ℕ). cond (f k) (add x k) x) ea ∙ set_more k f
 
+set_no_one : (n : ℕ) (f : ℕ → Bool) → ((k : ℕ) → f k ≡ false) → set_of n f ≡ 0
+unfolding set_of
+set_no_one zero f h = refl
+set_no_one (suc n) f h = ap (λ (b : Bool). cond b (add (set_of n f) n) (set_of n f)) (h n) ∙ set_no_one n f h
+
 and_all : (a : Bool) → (a && true) ≡ a
 and_all true = refl
 and_all false = refl
@@ -54,6 +59,12 @@ and_all false = refl
 and_none : (a : Bool) → (a && false) ≡ false
 and_none true = refl
 and_none false = refl
+
+-- without marks no line is marked
+pub unmarked : (t : Lines) (n : ℕ) → set_of n (is_marked t 0) ≡ 0
+unmarked t n =
+    set_no_one n (is_marked t 0) (λ k.
+    ap (λ (b : Bool). is_eventuality (line t k) && b) (has_none (eventuality t k)) ∙ and_none (is_eventuality (line t k)))
 
 out : (n : ℕ) (f : ℕ → Bool) (k : ℕ) → (k < n → ⊥) → has (set_of n f) k ≡ false
 out n f k h = elim (cases_Bool (has (set_of n f) k)) [ inl e ↦ absurd (h (set_of_from n f k e).0) | inr e ↦ e ]
@@ -67,6 +78,23 @@ filtered n s x f h =
       | inr l ↦
           ap (λ (v : Bool). has s k && v) (out n f k (λ h. omega arith)) ∙ and_none (has s k)
           ∙ sym (out n (λ j. has s j && f j) k (λ h. omega arith))
+    ])
+
+-- what a set has below n, and those below n that pass a test
+pub joined : (n s p c m x : ℕ) (f : ℕ → Bool) → p ≡ set_of n (λ k. true) → m ≡ set_of n f
+    → ((k : ℕ) → has c k ≡ (has s k && has p k)) → ((k : ℕ) → has x k ≡ (has c k || has m k)) → x ≡ set_of n (λ k. has s k || f k)
+joined n s p c m x f ep em hc hx =
+    let g : ℕ → Bool = λ k. has s k || f k in
+    mask_same _ _ (λ k.
+    let h : has x k ≡ ((has s k && has (set_of n (λ k. true)) k) || has (set_of n f) k) =
+    hx k ∙ ap (λ (b : Bool). b || has m k) (hc k ∙ ap (λ (y : ℕ). has s k && has y k) ep) ∙ ap (λ (y : ℕ). (has s k && has (set_of n (λ k. true)) k) || has y k) em in
+    h ∙ elim (cases_lt k n) [
+      | inl l ↦
+          ap (λ (b : Bool). (has s k && b) || has (set_of n f) k) (set_of_has n (λ k. true) k l)
+          ∙ ap (λ (b : Bool). b || has (set_of n f) k) (and_all (has s k)) ∙ ap (λ (b : Bool). has s k || b) (set_of_has n f k l) ∙ sym (set_of_has n g k l)
+      | inr l ↦
+          ap (λ (b : Bool). (has s k && b) || has (set_of n f) k) (out n (λ k. true) k (λ h. omega arith))
+          ∙ ap (λ (b : Bool). b || has (set_of n f) k) (and_none (has s k)) ∙ out n f k (λ h. omega arith) ∙ sym (out n g k (λ h. omega arith))
     ])
 
 pub put_full : (t : Lines) (m n s x : ℕ) → length t ≡ n → s ≡ set_of n (stays_at t) → ((k : ℕ) → has x k ≡ (has (spread_below t n m) k && has s k)) → x ≡ put t m

@@ -72,8 +72,12 @@ unfoldable pub load : List Pass → ℕ → ℕ
 load ps zero = 0
 load ps (suc d) = 2 ^ (get_or ps d pass0).line + load ps d
 
+-- line k is an eventuality that has a mark
+abbrev pub is_marked : Lines → ℕ → ℕ → Bool
+is_marked t marks k = is_eventuality (line t k) && has marks (eventuality t k)
+
 abbrev pub opens : Lines → Node → ℕ → Bool
-opens t n k = has n.label k || (is_eventuality (line t k) && has n.marks (eventuality t k))
+opens t n k = has n.label k || is_marked t n.marks k
 
 abbrev pub start : Lines → Node → Found
 start t n = record { seen = (opened t n).now; next = 0; later = 0; on = 0; off = 0 }

@@ -1,24 +1,44 @@
 // The start of a walk.
 ghost use Rattle.std.specs.Prelude.{◌≡◌, ℕ, ◌<◌};
 ghost use Rattle.graph.specs.Pass.{opened};
+ghost use Rattle.graph.specs.Sets.{set_of};
 ghost use Rattle.walk.specs.Exact.{Exact};
 ghost use Rattle.walk.specs.Outlines.{outlined};
 ghost use Rattle.walk.specs.Remain.{remaining};
-ghost use Rattle.walk.specs.Walk.{walked};
+ghost use Rattle.walk.specs.Walk.{is_marked, walked};
 
 use crate::branches::Branches;
-use crate::fit::set_of;
 use crate::found::{Found, Pass};
 use crate::outline::Outline;
 use arrayvec::ArrayVec;
 use graph::node::Node;
+use graph::sets::{common, has, union, with};
 
 impl Outline {
+    // The lines of the marked eventualities, which are numbered as they are met.
+    fn marked(&self, marks: u16) -> u128
+        ensures { result ≡ set_of self.now.len (is_marked (outlined self.now) marks) }
+    {
+        let mut lines = 0;
+        if marks != 0 {
+            let mut number = 0;
+            for k in 0..self.len {
+                if self.at(k).line().is_eventuality() {
+                    if has(marks, number) {
+                        lines = with(lines, k);
+                    }
+                    number += 1;
+                }
+            }
+        }
+        lines
+    }
+
     // The lines that a node's label and marks stand for; bits past the table's lines count for nothing.
     pub(crate) fn open(&self, node: Node) -> u128
         ensures { result ≡ (opened (outlined self.now) node).now }
     {
-        set_of(self.len, |k| self.at(k).opens(node))
+        union(common(node.label, self.places), self.marked(node.marks))
     }
 }
 
@@ -28,18 +48,18 @@ impl<'a> Branches<'a> {
         ensures list { remaining result ≡ walked (outlined outline.now) node }
         ensures exact { Exact (outlined outline.now) node (remaining result) }
     {
-        let mut stack = ArrayVec::new();
-        stack.push(Pass {
+        let mut branches = Branches {
+            outline,
+            node,
+            stack: ArrayVec::new(),
+        };
+        branches.stack.push(Pass {
             line: outline.len,
             found: Found {
                 seen: outline.open(node),
                 ..Found::default()
             },
         });
-        Branches {
-            outline,
-            node,
-            stack,
-        }
+        branches
     }
 }

@@ -5,11 +5,9 @@ ghost use Rattle.graph.specs.Pass.{spread};
 ghost use Rattle.tables.specs.Lines.{line, under, is_eventuality};
 ghost use Rattle.walk.specs.Fits.{narrow};
 ghost use Rattle.walk.specs.Outlines.{outlined};
-ghost use Rattle.walk.specs.Walk.{opens};
 
 use crate::outline::Outline;
-use graph::node::Node;
-use graph::sets::{has, with};
+use graph::sets::with;
 use tables::line::Line;
 
 // A line of an outline, by its number.
@@ -35,13 +33,6 @@ impl Place<'_> {
     {
         let below = self.outline.eventualities & ((1 << self.k) - 1);
         below.count_ones() as u8
-    }
-
-    // Does a node's label have the line, itself or as a marked eventuality?
-    pub(crate) fn opens(&self, node: Node) -> bool
-        ensures { result ≡ opens (outlined self.now.outline.now) node self.now.k }
-    {
-        has(node.label, self.k) || self.line().is_eventuality() && has(node.marks, self.number())
     }
 
     // The lines, and the sides of this one, if it is an ∧ line.

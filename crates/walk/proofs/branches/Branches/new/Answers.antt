@@ -19,5 +19,5 @@ returns c =
     let z = c.default.ensures in
     let f : ◌≡◌ {A = Found} (record { seen = c.open.result; next = d.next; later = d.later; on = d.on; off = d.off }) (start t n) = cc (c.open.ensures, z.1.0, z.1.1.0, z.1.1.1.0, z.1.1.1.1) in
     let e : ◌≡◌ {A = List Branch} _ (walked t n) =
-    ap (map (finish t n)) (rest_one t _ _ _ c.new-stack.ensures c.push.ensures.items ∙ ap₂ (λ (k : ℕ) (x : Found). walk t k x) (sym o.whole) f) in
+    ap (map (finish t n)) (rest_one t _ _ _ c.new.ensures c.push.ensures.items ∙ ap₂ (λ (k : ℕ) (x : Found). walk t k x) (sym o.whole) f) in
     record { list = e; exact = subst (Exact t n) (sym e) (walked_exact t (outline_ordered o) n) }

@@ -1,13 +1,16 @@
-use Rattle.std.proofs.Common.{ℕ, sym, ap, ◌∙◌, rules}
+use Rattle.std.proofs.Common.{ℕ, sym, ap, ◌∙◌}
 use Rattle.graph.specs.Sets.{set_of}
 use Rattle.graph.specs.Pass.{opened}
 use Rattle.walk.specs.Outlines.{outlined}
-use Rattle.walk.specs.Walk.{opens}
+use Rattle.walk.specs.Walk.{is_marked, opens}
+use Rattle.walk.proofs.Puts.{joined}
 use Rattle.walk.proofs.outline.Outline.open.Goals as goal
 
 pub returns : goal.returns
 unfolding opened
 returns c =
     let s = c.args.self.now in
-    let f = opens (outlined s) c.args.node in
-    c.set_of.ensures f (λ k b h p. search rules) ∙ ap (λ (n : ℕ). set_of n f) (sym s.whole)
+    let t = outlined s in
+    let n = c.args.node in
+    joined s.len n.label s.places c.common.result c.marked.result c.union.result (is_marked t n.marks) s.placed c.marked.ensures c.common.ensures c.union.ensures
+    ∙ ap (λ (x : ℕ). set_of x (opens t n)) (sym s.whole)
