@@ -1,15 +1,11 @@
 -- What an outline's array keeps of the lines that were copied into it.
-use Rattle.std.proofs.Common.{◌≡◌, ℕ, Bool, ◌&&◌, List, ◌++◌, length, get_or, take, sym, refl, ap, ◌∙◌}
+use Rattle.std.proofs.Common.{◌≡◌, ◌&&◌, List, ◌++◌, length, get_or, take, sym, ap, ◌∙◌}
 use Rattle.std.proofs.Math.Seq.{take-append_seam}
 use Rattle.std.proofs.lemmas.Bool.{and_from}
 use Rattle.std.proofs.lemmas.List.{get_or-take}
 use Rattle.tables.specs.declared.line.Line.{Line}
-use Rattle.tables.specs.Lines.{Lines, line, number, under, Earlier}
+use Rattle.tables.specs.Lines.{Lines, line, under, Earlier}
 use Rattle.walk.specs.Fits.{narrow, Narrow, Fit}
-
-pub number_none : (p : Line → Bool) (t : Lines) → number p t 0 ≡ 0
-unfolding number
-number_none p t = refl
 
 pub front_copied : (front rest : List Line) (given : Lines) → front ≡ given → take (length given) (front ++ rest) ≡ given
 front_copied front rest given e = ap (λ (ls : List Line). take (length given) (ls ++ rest)) e ∙ take-append_seam given rest

@@ -1,11 +1,13 @@
--- The loops of `put` and `history`, turn by turn.
-use Rattle.std.proofs.Common.{◌≡◌, ℕ, zero, suc, ◌+◌, ◌-◌, ◌<◌, Bool, true, false, cond, not, ◌&&◌, ◌||◌, length, sym, refl, ap, ◌∙◌, inl, inr, add-one, arith}
+-- The loops of `put`, `history` and `open`, turn by turn.
+use Rattle.std.proofs.Common.{◌≡◌, ℕ, zero, suc, ◌+◌, ◌-◌, ◌*◌, ◌^◌, ◌<◌, Bool, true, false, cond, not, ◌&&◌, ◌||◌, length, sym, refl, ap, ◌∙◌, inl, inr, add-one, pow-suc, arith}
+use lib.Bits.{bit_or}
+use Rattle.std.specs.Int.Bits.{or_shifted_r}
 use Rattle.tables.specs.declared.line.Line.{Line}
 use Rattle.graph.specs.Sets.{has, add, set_of}
 use Rattle.tables.specs.Lines.{Lines, line, is_eventuality}
 use Rattle.graph.specs.Pass.{spread, spread_below, put}
 use Rattle.graph.specs.Unfolding.{stays}
-use Rattle.graph.proofs.Masks.{set_of_has, set_of_from, has_none}
+use Rattle.graph.proofs.Masks.{set_of_has, set_of_from, set_of_lt, set_of_same, set_of_none, has_none}
 use Rattle.std.proofs.lemmas.Bool.{cases_Bool, cases_lt, both_ways, and_from}
 use Rattle.graph.specs.declared.node.Node.{Node}
 use Rattle.graph.specs.Numbers.{eventuality}
@@ -47,11 +49,6 @@ pub set_turn : (f : ℕ → Bool) (k a r : ℕ) (b : Bool) → a ≡ set_of k f 
 set_turn f k a r b ea eb er =
     er ∙ ap (λ (v : Bool). cond v (add a k) a) eb ∙ ap (λ (x : ℕ). cond (f k) (add x k) x) ea ∙ set_more k f
 
-set_no_one : (n : ℕ) (f : ℕ → Bool) → ((k : ℕ) → f k ≡ false) → set_of n f ≡ 0
-unfolding set_of
-set_no_one zero f h = refl
-set_no_one (suc n) f h = ap (λ (b : Bool). cond b (add (set_of n f) n) (set_of n f)) (h n) ∙ set_no_one n f h
-
 and_all : (a : Bool) → (a && true) ≡ a
 and_all true = refl
 and_all false = refl
@@ -63,8 +60,9 @@ and_none false = refl
 -- without marks no line is marked
 pub unmarked : (t : Lines) (n : ℕ) → set_of n (is_marked t 0) ≡ 0
 unmarked t n =
-    set_no_one n (is_marked t 0) (λ k.
+    set_of_same n (is_marked t 0) (λ k. false) (λ k l.
     ap (λ (b : Bool). is_eventuality (line t k) && b) (has_none (eventuality t k)) ∙ and_none (is_eventuality (line t k)))
+    ∙ set_of_none n
 
 out : (n : ℕ) (f : ℕ → Bool) (k : ℕ) → (k < n → ⊥) → has (set_of n f) k ≡ false
 out n f k h = elim (cases_Bool (has (set_of n f) k)) [ inl e ↦ absurd (h (set_of_from n f k e).0) | inr e ↦ e ]
@@ -79,6 +77,19 @@ filtered n s x f h =
           ap (λ (v : Bool). has s k && v) (out n f k (λ h. omega arith)) ∙ and_none (has s k)
           ∙ sym (out n (λ j. has s j && f j) k (λ h. omega arith))
     ])
+
+filled : (n : ℕ) → set_of n (λ k. true) + 1 ≡ 2 ^ n
+unfolding set_of add
+filled zero = refl
+filled (suc n) =
+    let f : ℕ → Bool = λ k. true in
+    let one : 2 ^ n ≡ 1 * 2 ^ n = omega arith in
+    let more : bit_or (set_of n f) (2 ^ n) ≡ 1 * 2 ^ n + set_of n f = ap (bit_or (set_of n f)) one ∙ or_shifted_r 1 n (set_of n f) (set_of_lt n f) in
+    omega (arith, more, filled n, pow-suc 2 n)
+
+-- the numbers below n, as a mask
+pub full : (n : ℕ) → 2 ^ n - 1 ≡ set_of n (λ k. true)
+full n = omega (arith, filled n)
 
 -- what a set has below n, and those below n that pass a test
 pub joined : (n s p c m x : ℕ) (f : ℕ → Bool) → p ≡ set_of n (λ k. true) → m ≡ set_of n f

@@ -40,6 +40,5 @@ fn outline(given: &[Line]) -> Outline
         stays: set_of(len, |k| stays(given[k as usize])),
         ands: set_of(len, |k| is_and(given[k as usize])),
         all: set_of(eventualities.count_ones() as u8, |_| true),
-        places: set_of(len, |_| true),
     }
 }

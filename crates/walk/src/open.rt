@@ -1,5 +1,5 @@
 // The start of a walk.
-ghost use Rattle.std.specs.Prelude.{◌≡◌, ℕ, ◌<◌};
+ghost use Rattle.std.specs.Prelude.{◌≡◌};
 ghost use Rattle.graph.specs.Pass.{opened};
 ghost use Rattle.graph.specs.Sets.{set_of};
 ghost use Rattle.walk.specs.Exact.{Exact};
@@ -15,7 +15,7 @@ use graph::node::Node;
 use graph::sets::{common, has, union, with};
 
 impl Outline {
-    // The lines of the marked eventualities, which are numbered as they are met.
+    // The lines of the marked eventualities, which are numbered as they are met; without marks no line is looked at.
     fn marked(&self, marks: u16) -> u128
         ensures { result ≡ set_of self.now.len (is_marked (outlined self.now) marks) }
     {
@@ -38,7 +38,10 @@ impl Outline {
     pub(crate) fn open(&self, node: Node) -> u128
         ensures { result ≡ (opened (outlined self.now) node).now }
     {
-        union(common(node.label, self.places), self.marked(node.marks))
+        union(
+            common(node.label, (1 << self.len) - 1),
+            self.marked(node.marks),
+        )
     }
 }
 

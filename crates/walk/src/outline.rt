@@ -1,5 +1,5 @@
 // A normal table made ready for unfolding.
-ghost use Rattle.std.specs.Prelude.{◌≡◌, ℕ, ◌<◌, ◌≤◌, true, length, take};
+ghost use Rattle.std.specs.Prelude.{◌≡◌, ℕ, ◌<◌, ◌≤◌, length, take};
 ghost use Rattle.graph.specs.Numbers.{choice_of};
 ghost use Rattle.graph.specs.Pass.{everything};
 ghost use Rattle.graph.specs.Sets.{set_of};
@@ -8,7 +8,7 @@ ghost use Rattle.walk.specs.Fits.{Fit, event_at, stays_at, and_at};
 use tables::line::Line;
 use tables::table::TABLE_LINES;
 
-// The lines of a table, the sets of its eventualities, of the lines that stay and of the ∧ lines, V, and the set of all lines.
+// The lines of a table, the sets of its eventualities, of the lines that stay and of the ∧ lines, and V.
 #[derive(Drop)]
 pub struct Outline {
     // The lines are an array and a length: the length is a byte, as the numbers of lines are, and no loop over them casts it.
@@ -18,7 +18,6 @@ pub struct Outline {
     pub(crate) stays: u128,
     pub(crate) ands: u128,
     pub(crate) all: u16,
-    pub(crate) places: u128,
     ghost low: { 1 ≤ len },
     ghost high: { len ≤ 121 },
     ghost fit: { Fit lines len },
@@ -28,5 +27,4 @@ pub struct Outline {
     ghost staying: { stays ≡ set_of len (stays_at (take len lines)) },
     ghost joining: { ands ≡ set_of len (and_at (take len lines)) },
     ghost every: { all ≡ everything (take len lines) },
-    ghost placed: { places ≡ set_of len (λ k. true) },
 }

@@ -34,5 +34,4 @@ invariant_of-result c =
       staying = s ∙ ap (λ (ls : List Line). set_of (length g) (stays_at ls)) (sym w);
       joining = a ∙ ap (λ (ls : List Line). set_of (length g) (and_at ls)) (sym w);
       every = v ∙ ap (λ (ls : List Line). set_of (eventuality ls (length ls)) (λ e. true)) (sym w);
-      placed = c.set_of-4.ensures (λ k. true) (λ k b h p. search rules);
     }

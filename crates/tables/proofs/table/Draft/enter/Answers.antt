@@ -6,7 +6,7 @@ use Rattle.tables.proofs.Drafts.{numbered, full}
 use Rattle.tables.proofs.Made.{draft_entered}
 use Rattle.tables.proofs.table.Draft.enter.Goals as goal
 
--- the array as the numbering leaves it; the new length is found by arithmetic, in whatever form the code has it
+-- the array as the numbering leaves it, and the larger of two lengths
 after : (c : goal.After-max-self) → enter c.args.line (drafted c.args.self.now) ≡ record { table = take c.max-self.result c.number.new.keys; at = c.in_ok-number.number }
 after c =
     let d = c.args.self.now in

@@ -2,11 +2,11 @@ use Rattle.std.proofs.Common.{◌≡◌, ℕ, ◌+◌, Bool, true, false, cond, 
 use Rattle.graph.specs.Numbers.{eventuality}
 use Rattle.graph.specs.Sets.{has, add, set_of}
 use Rattle.tables.specs.Lines.{line, is_eventuality}
+use Rattle.tables.proofs.Counts.{number_start}
 use Rattle.walk.specs.declared.outline.Outline.{Outline}
 use Rattle.walk.specs.Outlines.{outlined}
 use Rattle.walk.specs.Walk.{is_marked}
 use Rattle.walk.proofs.Evs.{ev_next}
-use Rattle.walk.proofs.Makes.{number_none}
 use Rattle.walk.proofs.Puts.{set_none, set_turn, unmarked}
 use Rattle.walk.proofs.outline.Outline.marked.Goals as goal
 use Rattle.walk.proofs.outline.Outline.marked.Goals.{then-is_eventuality, then-has, else-has, else-is_eventuality}
@@ -14,7 +14,7 @@ use Rattle.walk.proofs.outline.Outline.marked.Goals.{then-is_eventuality, then-h
 pub loop-k-init : goal.loop-k-init
 loop-k-init c =
     let t = outlined c.args.self.now in
-    record { small = omega arith; number = sym (number_none is_eventuality t); lines = sym (set_none (is_marked t c.args.marks)) }
+    record { small = omega arith; number = sym (number_start is_eventuality t); lines = sym (set_none (is_marked t c.args.marks)) }
 
 pub loop-k-preserved : goal.loop-k-preserved
 loop-k-preserved c =
